@@ -1,0 +1,3 @@
+pub mod Refusals
+pub mod Registers
+pub mod Operations

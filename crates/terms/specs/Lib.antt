@@ -1,0 +1,5 @@
+pub mod History
+pub mod Rules
+pub mod Term1
+pub mod Term2
+pub mod Term3

@@ -1,0 +1,169 @@
+-- Term 2, beyond the contracts: the fault table in document 01's order. An accepted access faults with the first row whose condition holds,
+-- and with no fault where none does.
+use Prim.Native.Nat.{ℕ, _%_}
+use mathlib.Core.Bool.{Bool, true, false, cond, not, _&&_, _||_}
+use mathlib.Core.Path.{_≡_}
+use mathlib.Core.List.{List, [], _∷_}
+use lib.Dec.{eqb}
+use lib.ListN.{length, getD}
+use Rattle.values.specs.Control.{mmu, alignment, system, rom}
+use Rattle.values.specs.Empty.{emptyEntry}
+use Rattle.values.specs.declared.VirtualAddress.{VirtualAddress}
+use Rattle.values.specs.declared.Registers.{Registers}
+use Rattle.values.specs.declared.Entry.{Entry}
+use Rattle.values.specs.declared.Access.{Access}
+use Rattle.values.specs.declared.Fault.{Fault}
+use Rattle.values.specs.declared.Status.{Status}
+use Rattle.values.specs.declared.Status.the-variants.{Alignment, WalkFirst, WalkSecond, TranslationSection, TranslationPage, DomainSection, DomainPage, PermissionSection, PermissionPage, FillSection, FillPage, OtherSection, OtherPage}
+use Rattle.values.specs.declared.Search.{Search}
+use Rattle.values.specs.declared.Search.the-variants.{At, Nothing}
+use Rattle.values.specs.declared.Call.{Call}
+use Rattle.values.specs.declared.Call.the-variants.{Load, SignedLoad, Store, Read, Write}
+use Rattle.values.specs.declared.Answer.{Answer}
+use Rattle.values.specs.declared.Answer.the-variants as answer
+use Rattle.rights.specs.Rights.{rights, domainValue}
+use Rattle.walk.specs.Walk.{descriptorAt, firstAddress, secondAddress, domainOf}
+use Rattle.walk.specs.declared.Descriptor.{Descriptor}
+use Rattle.walk.specs.declared.Descriptor.the-variants.{Word, Outside}
+use Rattle.tlb.specs.Tlb.{lookup, apOf}
+use Rattle.cache.specs.Dcache.{find}
+use Rattle.sound.specs.Machine.{Machine, memoryOf}
+use Rattle.access.specs.Alignment.{misaligned, cleared}
+use Rattle.access.specs.Translation.{translation, flatPlace, placeOf}
+use Rattle.access.specs.Faults.{inside, fills, buffers}
+use Rattle.access.specs.declared.Translation.{Translation}
+use Rattle.access.specs.declared.Translation.the-variants.{Flat, Held, Walked, Failed}
+use Rattle.access.specs.declared.Place.{Place}
+use Rattle.sa110.specs.Refusals.{refusal}
+use Rattle.sa110.specs.Call.{served}
+
+-- a row: its condition, and the fault's status and domain
+pub record Row : Type 0 where
+  pub condition : Bool
+  pub status : Status
+  pub domain : ℕ
+
+abbrev pub row : Bool → Status → ℕ → Row
+row condition status domain = record { condition = condition; status = status; domain = domain }
+
+-- ---- the walk's words
+
+abbrev pub isOutside : Descriptor → Bool
+isOutside Outside = true
+isOutside (Word w) = false
+
+abbrev pub wordIn : Descriptor → ℕ
+wordIn Outside = 0
+wordIn (Word w) = w
+
+-- a word whose low two bits are these
+abbrev pub hasBits : ℕ → Descriptor → Bool
+hasBits k Outside = false
+hasBits k (Word w) = eqb (w % 4) k
+
+abbrev pub isNothing : Search → Bool
+isNothing (At i) = false
+isNothing Nothing = true
+
+-- the mapping that serves, and the place that it gives; a failed walk has its row above those that ask
+abbrev pub entryOf : Translation → Entry
+entryOf Flat = emptyEntry
+entryOf (Held e) = e
+entryOf (Walked e) = e
+entryOf (Failed s d) = emptyEntry
+
+abbrev pub placeBy : VirtualAddress → Translation → Place
+placeBy va Flat = flatPlace va
+placeBy va (Held e) = placeOf e va
+placeBy va (Walked e) = placeOf e va
+placeBy va (Failed s d) = flatPlace va
+
+-- ---- the table
+
+module _ (m : Machine) (a : Access) (store : Bool) where
+  abbrev regs : Registers
+  regs = m .cp15 .registers
+
+  abbrev memory : List ℕ
+  memory = memoryOf m
+
+  abbrev mapping : Translation
+  mapping = translation (m .entries) regs memory (cleared a)
+
+  -- "Otherwise the walk reads memory": M is set and no TLB entry covers the address
+  abbrev walked : Bool
+  walked = mmu regs && isNothing (lookup (m .entries) (cleared a))
+
+  abbrev one : Descriptor
+  one = descriptorAt memory (firstAddress (regs .base) (cleared a))
+
+  abbrev two : Descriptor
+  two = descriptorAt memory (secondAddress (wordIn one) (cleared a))
+
+  abbrev right : ℕ
+  right =
+      rights (domainValue (regs .domains) (entryOf mapping .domain)) (apOf (entryOf mapping) (cleared a)) (system regs) (rom regs)
+      (a .privileged) store
+
+  abbrev place : Place
+  place = placeBy (cleared a) mapping
+
+  -- a miss outside memory
+  abbrev lost : Bool
+  lost = isNothing (find (m .side .cache .lines) (cleared a)) && not (inside (length memory) (place .address))
+
+  -- "on line fill": a load that fills; otherwise a load that does not, or a store that is not buffered
+  abbrev onFill : Bool
+  onFill = lost && (not store && fills regs place)
+
+  abbrev other : Bool
+  other = lost && cond store (not (buffers regs place)) (not (fills regs place))
+
+  -- "Status, in order: alignment 1; walk outside memory 12 (level 1), 14 (level 2); translation 5, 7; domain 9, 11; permission 13, 15;
+  -- outside memory on line fill 4, 6, otherwise 8, 10."
+  unfoldable pub rows : List Row
+  rows =
+      row (alignment regs && misaligned a) Alignment 0
+      ∷ row (walked && isOutside one) WalkFirst 0
+      ∷ row (walked && (hasBits 1 one && isOutside two)) WalkSecond (domainOf (wordIn one))
+      ∷ row (walked && (hasBits 0 one || hasBits 3 one)) TranslationSection 0
+      ∷ row (walked && (hasBits 1 one && (hasBits 0 two || hasBits 3 two))) TranslationPage (domainOf (wordIn one))
+      ∷ row (mmu regs && (eqb right 1 && eqb (entryOf mapping .size) 0)) DomainSection (entryOf mapping .domain)
+      ∷ row (mmu regs && (eqb right 1 && not (eqb (entryOf mapping .size) 0))) DomainPage (entryOf mapping .domain)
+      ∷ row (mmu regs && (eqb right 2 && eqb (entryOf mapping .size) 0)) PermissionSection (entryOf mapping .domain)
+      ∷ row (mmu regs && (eqb right 2 && not (eqb (entryOf mapping .size) 0))) PermissionPage (entryOf mapping .domain)
+      ∷ row (onFill && not (place .page)) FillSection (place .domain)
+      ∷ row (onFill && place .page) FillPage (place .domain)
+      ∷ row (other && not (place .page)) OtherSection (place .domain)
+      ∷ row (other && place .page) OtherPage (place .domain)
+      ∷ []
+
+-- ---- the statement
+
+-- the fault of an answer, and of the first row whose condition holds, if there is one
+pub data Faulting : Type 0 where
+  faults : Fault → Faulting
+  passes : Faulting
+
+abbrev pub faultIn : Answer → Faulting
+faultIn (answer.Value v) = passes
+faultIn (answer.Signed z) = passes
+faultIn (answer.Fault f) = faults f
+faultIn (answer.Refused n) = passes
+
+unfoldable pub firstRow : VirtualAddress → List Row → Faulting
+firstRow address [] = passes
+firstRow address (r ∷ rs) =
+    cond (r .condition) (faults (record { status = r .status; domain = r .domain; address = address })) (firstRow address rs)
+
+-- an access's fault by the table
+abbrev pub tableFault : Machine → Call → Faulting
+tableFault m (Load a) = firstRow (a .address) (rows m a false)
+tableFault m (SignedLoad a) = firstRow (a .address) (rows m a false)
+tableFault m (Store a v) = firstRow (a .address) (rows m a true)
+tableFault m (Read t) = passes
+tableFault m (Write t v) = passes
+
+-- "faults exactly when the tables say, with that status, domain and address"
+abbrev pub Term2 : Type 0
+Term2 = (m : Machine) (c : Call) → refusal m c ≡ 0 → faultIn (served m c .answer) ≡ tableFault m c

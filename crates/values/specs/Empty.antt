@@ -1,0 +1,28 @@
+-- Empty places: "emptied places become all zeros". "registers zero, ... pointers and counts zero".
+use Prim.Native.Nat.{ℕ}
+use mathlib.Core.Bool.{Bool, true, false}
+use lib.ListN.{replicate}
+use Rattle.values.specs.declared.Registers.{Registers}
+use Rattle.values.specs.declared.Cp15.{Cp15}
+use Rattle.values.specs.declared.Counts.{Counts}
+use Rattle.values.specs.declared.Entry.{Entry}
+use Rattle.values.specs.declared.Line.{Line}
+use Rattle.values.specs.declared.Slot.{Slot}
+
+abbrev pub emptyEntry : Entry
+emptyEntry = record { valid = false; size = 0; vbase = 0; pbase = 0; domain = 0; aps = 0; cacheable = false; bufferable = false }
+
+abbrev pub emptyLine : Line
+emptyLine = record { valid = false; tag = 0; frame = 0; low = false; high = false }
+
+abbrev pub emptySlot : Slot
+emptySlot = record { block = 0; mask = 0; bytes = replicate 16 0 }
+
+abbrev pub zeroRegisters : Registers
+zeroRegisters = record { control = 0; base = 0; domains = 0; fsr = 0; far = 0 }
+
+abbrev pub zeroCp15 : Cp15
+zeroCp15 = record { registers = zeroRegisters; pointer = 0 }
+
+abbrev pub zeroCounts : Counts
+zeroCounts = record { calls = 0; misses = 0; hits = 0; fills = 0; halves = 0 }

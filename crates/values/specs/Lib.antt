@@ -1,0 +1,5 @@
+pub mod Tests
+pub mod Addresses
+pub mod Answers
+pub mod Control
+pub mod Empty

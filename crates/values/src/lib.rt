@@ -1,0 +1,121 @@
+// The shared types of document 01: addresses, faults, answers, registers, counts, calls, and the places of TLB, Dcache and write buffer.
+
+// A virtual address, 32 bits.
+pub struct VirtualAddress(pub u32);
+
+// A physical address, 32 bits. Only translation and the flat rule make one of a virtual address.
+pub struct PhysicalAddress(pub u32);
+
+// The status of a fault; `statusOf` gives its number. The second of each pair is for pages.
+pub enum Status {
+    Alignment,
+    WalkFirst,
+    WalkSecond,
+    TranslationSection,
+    TranslationPage,
+    DomainSection,
+    DomainPage,
+    PermissionSection,
+    PermissionPage,
+    FillSection,
+    FillPage,
+    OtherSection,
+    OtherPage,
+}
+
+// A fault: its status, its domain, and the virtual address given.
+pub struct Fault {
+    pub status: Status,
+    pub domain: u32,
+    pub address: VirtualAddress,
+}
+
+// What a call answers: a value, a signed value, a fault, or the number of its refusal.
+pub enum Answer {
+    Value(u32),
+    Signed(i32),
+    Fault(Fault),
+    Refused(u32),
+}
+
+// The plain five registers: 1 control, 2 table base, 3 domain values, 5 FSR, 6 FAR.
+pub struct Registers {
+    pub control: u32,
+    pub base: u32,
+    pub domains: u32,
+    pub fsr: u32,
+    pub far: u32,
+}
+
+// The small record: the plain five registers and the TLB pointer.
+pub struct Cp15 {
+    pub registers: Registers,
+    pub pointer: u32,
+}
+
+// The five counts: calls, TLB misses, Dcache hits, line fills, halves sent out.
+pub struct Counts {
+    pub calls: u32,
+    pub misses: u32,
+    pub hits: u32,
+    pub fills: u32,
+    pub halves: u32,
+}
+
+// A data access: its mode, its width in bytes, its virtual address.
+pub struct Access {
+    pub privileged: bool,
+    pub width: u32,
+    pub address: VirtualAddress,
+}
+
+// A CP15 call: its mode, the register, and opcode 2 and CRm, which only writes of registers 7 and 8 heed.
+pub struct Transfer {
+    pub privileged: bool,
+    pub register: u32,
+    pub opcode: u32,
+    pub crm: u32,
+}
+
+// A call of the library. A store and a CP15 write carry their value.
+pub enum Call {
+    Load(Access),
+    SignedLoad(Access),
+    Store(Access, u32),
+    Read(Transfer),
+    Write(Transfer, u32),
+}
+
+// A TLB entry: size 0 section, 1 large page, 2 small page; AP0 to AP3 in `aps`, two bits each, AP0 lowest.
+pub struct Entry {
+    pub valid: bool,
+    pub size: u32,
+    pub vbase: u32,
+    pub pbase: u32,
+    pub domain: u32,
+    pub aps: u32,
+    pub cacheable: bool,
+    pub bufferable: bool,
+}
+
+// A Dcache line: its virtual tag, its physical line number, and a dirty bit for each half.
+pub struct Line {
+    pub valid: bool,
+    pub tag: u32,
+    pub frame: u32,
+    pub low: bool,
+    pub high: bool,
+}
+
+// A write buffer entry: its block number, its 16-bit mask, its bytes.
+pub struct Slot {
+    pub block: u32,
+    pub mask: u32,
+    pub bytes: [u8; 16],
+}
+
+// Where a search found its match, or that it found none.
+pub enum Search {
+    At(usize),
+    Nothing,
+}

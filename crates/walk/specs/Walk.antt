@@ -1,0 +1,94 @@
+-- "Translation, with M set (001, figures 2-1, 2-2)": "the walk reads memory only, never cache or buffer".
+use Prim.Native.Nat.{ℕ, _+_, _*_, _/_, _%_}
+use mathlib.Core.Bool.{Bool, true, false, cond}
+use mathlib.Core.List.{List}
+use lib.Dec.{eqb, leb}
+use lib.ListN.{length}
+use Rattle.values.specs.Tests.{bit}
+use Rattle.values.specs.declared.VirtualAddress.{VirtualAddress}
+use Rattle.values.specs.declared.PhysicalAddress.{PhysicalAddress}
+use Rattle.values.specs.declared.Entry.{Entry}
+use Rattle.values.specs.declared.Status.the-variants.{WalkFirst, WalkSecond, TranslationSection, TranslationPage}
+use Rattle.words.specs.Words.{valueAt}
+use Rattle.walk.specs.declared.Descriptor.{Descriptor}
+use Rattle.walk.specs.declared.Descriptor.the-variants.{Word, Outside}
+use Rattle.walk.specs.declared.Walk.{Walk}
+use Rattle.walk.specs.declared.Walk.the-variants.{Found, Failed}
+
+-- a reader over the lent memory: the descriptor word at an address, or that it lies outside
+unfoldable pub descriptorAt : List ℕ → PhysicalAddress → Descriptor
+descriptorAt memory pa = cond (leb (pa .0 + 4) (length memory)) (Word (valueAt 4 memory (pa .0))) Outside
+
+-- "Level 1 word: table base plus four times VA[31:20]."
+abbrev pub firstAddress : ℕ → VirtualAddress → PhysicalAddress
+firstAddress base va = record { 0 = base + 4 * (va .0 / 1048576) }
+
+-- "01 second-level table at [31:10]", "Level 2 word: table plus four times VA[19:12]"
+abbrev pub secondAddress : ℕ → VirtualAddress → PhysicalAddress
+secondAddress w va = record { 0 = w / 1024 * 1024 + 4 * (va .0 / 4096 % 256) }
+
+-- "domain [8:5]"
+abbrev pub domainOf : ℕ → ℕ
+domainOf w = w / 32 % 16
+
+-- "10 section, base [31:20], AP [11:10], domain [8:5], C bit 3, B bit 2"; "a section's AP four times"
+abbrev pub sectionEntry : ℕ → VirtualAddress → Entry
+sectionEntry w va =
+    record {
+      valid = true;
+      size = 0;
+      vbase = va .0 / 1048576 * 1048576;
+      pbase = w / 1048576 * 1048576;
+      domain = domainOf w;
+      aps = w / 1024 % 4 * 85;
+      cacheable = bit w 3;
+      bufferable = bit w 2;
+    }
+
+-- "01 large page, base [31:16]"; "AP0 to AP3 from bit 4 upward, C and B as above"; the domain is the level 1 word's
+abbrev pub largeEntry : ℕ → ℕ → VirtualAddress → Entry
+largeEntry domain w va =
+    record {
+      valid = true;
+      size = 1;
+      vbase = va .0 / 65536 * 65536;
+      pbase = w / 65536 * 65536;
+      domain = domain;
+      aps = w / 16 % 256;
+      cacheable = bit w 3;
+      bufferable = bit w 2;
+    }
+
+-- "10 small page, base [31:12]"
+abbrev pub smallEntry : ℕ → ℕ → VirtualAddress → Entry
+smallEntry domain w va =
+    record {
+      valid = true;
+      size = 2;
+      vbase = va .0 / 4096 * 4096;
+      pbase = w / 4096 * 4096;
+      domain = domain;
+      aps = w / 16 % 256;
+      cacheable = bit w 3;
+      bufferable = bit w 2;
+    }
+
+-- the level 2 word: 01 large page, 10 small page, "00 and 11 fault"; "walk outside memory ... 14 (level 2); translation ... 7"
+unfoldable pub second : ℕ → VirtualAddress → Descriptor → Walk
+second domain va Outside = Failed WalkSecond domain
+second domain va (Word w) =
+    cond (eqb (w % 4) 1) (Found (largeEntry domain w va))
+    (cond (eqb (w % 4) 2) (Found (smallEntry domain w va))
+    (Failed TranslationPage domain))
+
+-- the level 1 word: 01 second-level table, 10 section, "00 and 11 translation fault"; "Domain is 0 for 1, 12, 5"
+unfoldable pub first : List ℕ → VirtualAddress → Descriptor → Walk
+first memory va Outside = Failed WalkFirst 0
+first memory va (Word w) =
+    cond (eqb (w % 4) 1) (second (domainOf w) va (descriptorAt memory (secondAddress w va)))
+    (cond (eqb (w % 4) 2) (Found (sectionEntry w va))
+    (Failed TranslationSection 0))
+
+-- the walk of memory for a virtual address, by the table base
+unfoldable pub walk : List ℕ → ℕ → VirtualAddress → Walk
+walk memory base va = first memory va (descriptorAt memory (firstAddress base va))

@@ -1,0 +1,13 @@
+-- "A signed load answers a signed number, from −128 for a byte up to full words."
+use Prim.Native.Nat.{ℕ, _+_, _-_, _^_, _/_}
+use mathlib.Core.Bool.{cond}
+use lib.Dec.{ltb}
+use lib.IntN.{ℤ, pos, negsuc}
+
+-- x is below twice half: from half upward it stands for x minus twice half. `negsuc n` is −(n + 1).
+unfoldable pub signedBy : ℕ → ℕ → ℤ
+signedBy half x = cond (ltb x half) (pos x) (negsuc (half + half - 1 - x))
+
+-- the number of `width` bytes x as a signed number
+abbrev pub signedOf : ℕ → ℕ → ℤ
+signedOf width x = signedBy (256 ^ width / 2) x
