@@ -16,8 +16,8 @@ use Rattle.values.specs.declared.Search.the-variants.{At, Nothing}
 use Rattle.values.specs.declared.Status.the-variants.{DomainSection, DomainPage, PermissionSection, PermissionPage}
 use Rattle.rights.specs.Rights.{rights, domainValue}
 use Rattle.walk.specs.Walk.{walk}
-use Rattle.walk.specs.declared.Walk.{Walk}
-use Rattle.walk.specs.declared.Walk.the-variants as walked
+use Rattle.walk.specs.declared.Mapping.{Mapping}
+use Rattle.walk.specs.declared.Mapping.the-variants as walked
 use Rattle.tlb.specs.Tlb.{lookup, translated, apOf, placed, stepped}
 use Rattle.access.specs.declared.Translation.{Translation}
 use Rattle.access.specs.declared.Translation.the-variants.{Flat, Held, Walked, Failed}
@@ -27,7 +27,7 @@ use Rattle.access.specs.declared.Checked.the-variants.{Passed, Denied}
 
 -- ---- which mapping serves
 
-abbrev pub ofWalk : Walk → Translation
+abbrev pub ofWalk : Mapping → Translation
 ofWalk (walked.Found e) = Walked e
 ofWalk (walked.Failed s d) = Failed s d
 

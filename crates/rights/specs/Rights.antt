@@ -1,6 +1,7 @@
 -- "Rights come from a constant table of 256 entries ... 0 allowed, 1 domain fault, 2 permission fault."
-use Prim.Native.Nat.{ℕ, _+_, _*_, _/_, _%_, _^_}
+use Prim.Native.Nat.{ℕ, zero, suc, _+_, _*_, _/_, _%_, _^_}
 use mathlib.Core.Bool.{Bool, true, false, cond, not, _&&_, _||_}
+use mathlib.Core.List.{List, [], _∷_}
 use lib.Dec.{eqb}
 use Rattle.values.specs.Tests.{bit, number}
 
@@ -28,6 +29,15 @@ indexOf value ap s r privileged store =
 -- the table's entry at an index
 abbrev pub rightsAt : ℕ → ℕ
 rightsAt i = rights (i / 64) (i / 16 % 4) (bit i 3) (bit i 2) (bit i 1) (bit i 0)
+
+-- a function's values at i and the n - 1 numbers behind it
+abbrev pub tabulated : (ℕ → ℕ) → ℕ → ℕ → List ℕ
+tabulated f i zero = []
+tabulated f i (suc n) = f i ∷ tabulated f (suc i) n
+
+-- "a constant table of 256 entries"
+unfoldable pub rightsTable : List ℕ
+rightsTable = tabulated rightsAt 0 256
 
 -- "3 holds sixteen two-bit domain values": the value of domain d, whose pair begins at bit 2 d
 abbrev pub domainValue : ℕ → ℕ → ℕ

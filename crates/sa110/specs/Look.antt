@@ -11,8 +11,8 @@ use Rattle.values.specs.declared.PhysicalAddress.{PhysicalAddress}
 use Rattle.values.specs.declared.Search.{Search}
 use Rattle.values.specs.declared.Search.the-variants.{At, Nothing}
 use Rattle.walk.specs.Walk.{walk}
-use Rattle.walk.specs.declared.Walk.{Walk}
-use Rattle.walk.specs.declared.Walk.the-variants.{Found, Failed}
+use Rattle.walk.specs.declared.Mapping.{Mapping}
+use Rattle.walk.specs.declared.Mapping.the-variants.{Found, Failed}
 use Rattle.tlb.specs.Tlb.{translated}
 use Rattle.cache.specs.Dcache.{find}
 use Rattle.sound.specs.Machine.{Machine, memoryOf, storeOf}
@@ -28,7 +28,7 @@ abbrev pub memoryLine : List ℕ → PhysicalAddress → List ℕ
 memoryLine memory pa = cond (inside (length memory) pa) (lineBytes memory (physicalLine pa)) []
 
 -- "otherwise out of memory by a walk past the TLB that changes nothing"; under a walk fault "an empty part"; "rights are not checked"
-abbrev pub walkedLine : List ℕ → VirtualAddress → Walk → List ℕ
+abbrev pub walkedLine : List ℕ → VirtualAddress → Mapping → List ℕ
 walkedLine memory va (Found e) = memoryLine memory (translated e va)
 walkedLine memory va (Failed s d) = []
 

@@ -17,8 +17,8 @@ use Rattle.values.specs.declared.Call.the-variants.{Load, SignedLoad, Store, Re
 use Rattle.words.specs.Words.{valueAt}
 use Rattle.walk.specs.Walk.{walk, firstAddress, secondAddress}
 use Rattle.walk.specs.Reads.{wordsRead}
-use Rattle.walk.specs.declared.Walk.{Walk}
-use Rattle.walk.specs.declared.Walk.the-variants.{Found, Failed}
+use Rattle.walk.specs.declared.Mapping.{Mapping}
+use Rattle.walk.specs.declared.Mapping.the-variants.{Found, Failed}
 use Rattle.access.specs.Alignment.{misaligned, cleared}
 use Rattle.access.specs.declared.Checked.{Checked}
 use Rattle.access.specs.declared.Checked.the-variants.{Passed, Denied}
@@ -86,7 +86,7 @@ R5 h = h .baseStale ≡ false
 
 -- "at each access for which the plain walk finds a large page, the aligned group of sixteen words round that level 2 word lies in memory and
 -- all are equal"
-abbrev pub isLarge : Walk → Bool
+abbrev pub isLarge : Mapping → Bool
 isLarge (Found e) = eqb (e .size) 1
 isLarge (Failed s d) = false
 

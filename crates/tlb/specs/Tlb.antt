@@ -50,5 +50,8 @@ unfoldable pub flushed : List Entry
 flushed = replicate 32 emptyEntry
 
 -- "(1,6) drops every entry covering the address"
+abbrev pub keptOf : VirtualAddress → Entry → Entry
+keptOf va e = cond (covers va e) emptyEntry e
+
 unfoldable pub dropped : List Entry → VirtualAddress → List Entry
-dropped entries va = map (λ (e : Entry). cond (covers va e) emptyEntry e) entries
+dropped entries va = map (keptOf va) entries

@@ -1,4 +1,7 @@
 // The shared types of document 01: addresses, faults, answers, registers, counts, calls, and the places of TLB, Dcache and write buffer.
+ghost use mathlib.Core.Path.{_≡_};
+ghost use Prim.Native.Nat.{_<_};
+ghost use Rattle.values.specs.Tests.{number};
 
 // A virtual address, 32 bits.
 pub struct VirtualAddress(pub u32);
@@ -118,4 +121,11 @@ pub struct Slot {
 pub enum Search {
     At(usize),
     Nothing,
+}
+
+// A bit as a number.
+pub fn bit_number(b: bool) -> u32
+    ensures { λ r. ⌜ (r ≡ number b) × (r < 2) ⌝ }
+{
+    if b { 1 } else { 0 }
 }

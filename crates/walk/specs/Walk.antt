@@ -12,8 +12,8 @@ use Rattle.values.specs.declared.Status.the-variants.{WalkFirst, WalkSecond, Tr
 use Rattle.words.specs.Words.{valueAt}
 use Rattle.walk.specs.declared.Descriptor.{Descriptor}
 use Rattle.walk.specs.declared.Descriptor.the-variants.{Word, Outside}
-use Rattle.walk.specs.declared.Walk.{Walk}
-use Rattle.walk.specs.declared.Walk.the-variants.{Found, Failed}
+use Rattle.walk.specs.declared.Mapping.{Mapping}
+use Rattle.walk.specs.declared.Mapping.the-variants.{Found, Failed}
 
 -- a reader over the lent memory: the descriptor word at an address, or that it lies outside
 unfoldable pub descriptorAt : List ℕ → PhysicalAddress → Descriptor
@@ -74,7 +74,7 @@ smallEntry domain w va =
     }
 
 -- the level 2 word: 01 large page, 10 small page, "00 and 11 fault"; "walk outside memory ... 14 (level 2); translation ... 7"
-unfoldable pub second : ℕ → VirtualAddress → Descriptor → Walk
+unfoldable pub second : ℕ → VirtualAddress → Descriptor → Mapping
 second domain va Outside = Failed WalkSecond domain
 second domain va (Word w) =
     cond (eqb (w % 4) 1) (Found (largeEntry domain w va))
@@ -82,7 +82,7 @@ second domain va (Word w) =
     (Failed TranslationPage domain))
 
 -- the level 1 word: 01 second-level table, 10 section, "00 and 11 translation fault"; "Domain is 0 for 1, 12, 5"
-unfoldable pub first : List ℕ → VirtualAddress → Descriptor → Walk
+unfoldable pub first : List ℕ → VirtualAddress → Descriptor → Mapping
 first memory va Outside = Failed WalkFirst 0
 first memory va (Word w) =
     cond (eqb (w % 4) 1) (second (domainOf w) va (descriptorAt memory (secondAddress w va)))
@@ -90,5 +90,5 @@ first memory va (Word w) =
     (Failed TranslationSection 0))
 
 -- the walk of memory for a virtual address, by the table base
-unfoldable pub walk : List ℕ → ℕ → VirtualAddress → Walk
+unfoldable pub walk : List ℕ → ℕ → VirtualAddress → Mapping
 walk memory base va = first memory va (descriptorAt memory (firstAddress base va))

@@ -1,6 +1,7 @@
 -- "Words in memory are little-endian": numbers of some bytes' width in a list of bytes.
 use Prim.Native.Nat.{ℕ, zero, suc, _+_, _*_, _/_, _%_, _^_, _<_}
 use mathlib.Core.Bool.{Bool, _||_}
+use mathlib.Core.Path.{_≡_}
 use mathlib.Core.List.{List}
 use lib.Dec.{eqb, ltb}
 use lib.ListN.{length, getD, set}
@@ -22,6 +23,11 @@ isWidth w = eqb w 1 || (eqb w 2 || eqb w 4)
 -- "The value to store does not fit the width": the values that do
 abbrev pub fitsWidth : ℕ → ℕ → Bool
 fitsWidth w v = ltb v (256 ^ w)
+
+-- what a load of n bytes from a answers: their number, which fits the width
+pub record Loaded (n : ℕ) (m : List ℕ) (a r : ℕ) : Type 0 where
+  pub value : r ≡ valueAt n m a
+  pub fits : r < 256 ^ n
 
 -- each element is a byte
 abbrev pub Bytes : List ℕ → Type 0

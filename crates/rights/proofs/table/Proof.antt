@@ -1,0 +1,15 @@
+use Rattle.rights.specs.Rights.{rightsTable, rights}
+use mathlib.Core.Path.{refl, _∙_}
+use Prim.Native.Nat.{_*_, _/_, _%_, _^_}
+use Rattle.rights.proofs.table.Statement.{statement}
+use Rattle.rights.proofs.table.Tie as tie
+use Rattle.rights.proofs.table.Reads as reads
+use Rattle.rights.proofs.table.Lts as lts
+
+-- src/lib.rt:31:1
+returns : tie.Need-returns
+unfolding rightsTable rights
+returns c = refl
+
+pub table-spec : {M : Type 1} → statement M
+table-spec = tie.close (tie.spec returns)

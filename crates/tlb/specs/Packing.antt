@@ -1,0 +1,28 @@
+-- A TLB entry as one number of 64 bits, every bit of which belongs to a field: bit 0 valid, 1 C, 2 B, 3 to 7 size, 8 to 15 domain, 16 to 23 AP0
+-- to AP3, 24 to 43 the physical base and 44 to 63 the virtual base, both divided by 4096. 0 is the empty entry.
+use Prim.Native.Nat.{ℕ, _+_, _*_, _/_, _%_}
+use mathlib.Core.List.{List, map}
+use Rattle.values.specs.Tests.{bit, number}
+use Rattle.values.specs.declared.Entry.{Entry}
+
+unfoldable pub entryOf : ℕ → Entry
+entryOf w =
+    record {
+      valid = bit w 0;
+      size = w / 8 % 32;
+      vbase = w / 17592186044416 * 4096;
+      pbase = w / 16777216 % 1048576 * 4096;
+      domain = w / 256 % 256;
+      aps = w / 65536 % 256;
+      cacheable = bit w 1;
+      bufferable = bit w 2;
+    }
+
+unfoldable pub wordOf : Entry → ℕ
+wordOf e =
+    number (e .valid) + 2 * (number (e .cacheable) + 2 * (number (e .bufferable) + 2 * (e .size + 32 * (e .domain + 256 * (e .aps
+    + 256 * (e .pbase / 4096 + 1048576 * (e .vbase / 4096)))))))
+
+-- the entries that words stand for
+abbrev pub entriesOf : List ℕ → List Entry
+entriesOf words = map entryOf words

@@ -1,0 +1,4 @@
+pub mod Cases
+pub mod Searches
+pub mod Maps
+pub mod InPlace

@@ -1,0 +1,40 @@
+use mathlib.Core.Path.{sym, _∙_}
+use Rattle.walk.proofs.Laws.{first-table, first-section, first-none}
+use borrow.Author.Needs.{needs}
+use Rattle.walk.proofs.level_one.Statement.{statement}
+use Rattle.walk.proofs.level_one.Tie as tie
+use Rattle.walk.proofs.level_one.Reads as reads
+use Rattle.walk.proofs.level_one.Lts as lts
+use Rattle.walk.proofs.second_level.Reads as second-level-reads
+
+-- src/lib.rt:86:9
+second-level-requires : tie.Need-second-level-requires
+second-level-requires c κs = search needs
+
+-- src/lib.rt:86:9
+returns : tie.Need-returns
+returns c = c .second-level .ensures ∙ sym (first-table _ (c .before .before .before .args .va) _ (c .before .if1 .taken))
+
+-- src/lib.rt:92:20
+mul-t7 : tie.Need-mul-t7
+mul-t7 c = search needs
+
+-- src/lib.rt:93:20
+mul-t9 : tie.Need-mul-t9
+mul-t9 c = search needs
+
+-- src/lib.rt:95:18
+mul-t14 : tie.Need-mul-t14
+mul-t14 c = search needs
+
+-- src/lib.rt:89:9
+returns-2 : tie.Need-returns-2
+returns-2 c = sym (first-section _ (c .before .before .before .before .args .va) _ (c .before .if2 .taken))
+
+-- src/lib.rt:81:1
+returns-3 : tie.Need-returns-3
+returns-3 c = sym (first-none _ (c .before .before .before .args .va) _ (c .before .if1 .left) (c .if2 .left))
+
+pub level-one-spec : {M : Type 1} → statement M
+level-one-spec =
+    tie.close (tie.spec second-level-requires returns mul-t7 mul-t9 mul-t14 returns-2 returns-3)

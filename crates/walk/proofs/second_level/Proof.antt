@@ -1,0 +1,59 @@
+use Rattle.walk.specs.Walk.{second}
+use borrow.Author.Needs.{needs}
+use Rattle.walk.proofs.second_level.Statement.{statement}
+use Rattle.walk.proofs.second_level.Tie as tie
+use Rattle.walk.proofs.second_level.Reads as reads
+use Rattle.walk.proofs.second_level.Lts as lts
+use Rattle.walk.proofs.descriptor_at.Reads as descriptor-at-reads
+use Rattle.walk.proofs.level_two.Reads as level-two-reads
+
+-- src/lib.rt:72:30
+mul-t9 : tie.Need-mul-t9
+mul-t9 c = search needs
+
+-- src/lib.rt:72:48
+mul-t12 : tie.Need-mul-t12
+mul-t12 c = search needs
+
+-- src/lib.rt:72:30
+add-t13 : tie.Need-add-t13
+add-t13 c = search needs
+
+-- src/lib.rt:73:9
+descriptor-at-requires : tie.Need-descriptor-at-requires
+descriptor-at-requires c κs = search needs
+
+-- src/lib.rt:75:26
+enum-known-d : tie.Need-enum-known-d
+enum-known-d c = search needs
+
+-- src/lib.rt:75:32
+level-two-requires : tie.Need-level-two-requires
+level-two-requires c κs = search needs
+
+-- src/lib.rt:76:48
+enum-told : tie.Need-enum-told
+enum-told c = search needs
+
+-- src/lib.rt:68:1
+returns : tie.Need-returns
+returns c = rw (← c .before .before .before .before .descriptor-at .ensures, c .before .before .d .given .1) (c .level-two .ensures)
+
+-- src/lib.rt:68:1
+returns-2 : tie.Need-returns-2
+unfolding second
+returns-2 c = rw (← c .before .before .descriptor-at .ensures, c .enum-told .given .1)
+
+pub second-level-spec : {M : Type 1} → statement M
+second-level-spec =
+    tie.close
+    (tie.spec
+    mul-t9
+    mul-t12
+    add-t13
+    descriptor-at-requires
+    enum-known-d
+    level-two-requires
+    enum-told
+    returns
+    returns-2)

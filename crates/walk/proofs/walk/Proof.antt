@@ -1,0 +1,56 @@
+use mathlib.Core.Path.{sym, _∙_}
+use Rattle.walk.specs.Walk.{first}
+use Rattle.walk.proofs.Laws.{walk-by}
+use borrow.Author.Needs.{needs}
+use Rattle.walk.proofs.walk.Statement.{statement}
+use Rattle.walk.proofs.walk.Tie as tie
+use Rattle.walk.proofs.walk.Reads as reads
+use Rattle.walk.proofs.walk.Lts as lts
+use Rattle.walk.proofs.descriptor_at.Reads as descriptor-at-reads
+use Rattle.walk.proofs.level_one.Reads as level-one-reads
+
+-- src/lib.rt:108:37
+mul-t8 : tie.Need-mul-t8
+mul-t8 c = search needs
+
+-- src/lib.rt:108:30
+add-t9 : tie.Need-add-t9
+add-t9 c = search needs
+
+-- src/lib.rt:109:9
+descriptor-at-requires : tie.Need-descriptor-at-requires
+descriptor-at-requires c κs = search needs
+
+-- src/lib.rt:111:26
+enum-known-d : tie.Need-enum-known-d
+enum-known-d c = search needs
+
+-- src/lib.rt:111:32
+level-one-requires : tie.Need-level-one-requires
+level-one-requires c κs = search needs
+
+-- src/lib.rt:112:48
+enum-told : tie.Need-enum-told
+enum-told c = search needs
+
+-- src/lib.rt:104:1
+returns : tie.Need-returns
+returns c = c .level-one .ensures ∙ sym (walk-by _ _ (c .before .before .before .before .before .before .before .args .va) _ (sym (c .before .before .before .before .descriptor-at .ensures) ∙ c .before .before .d .given .1))
+
+-- src/lib.rt:104:1
+returns-2 : tie.Need-returns-2
+unfolding first
+returns-2 c = sym (walk-by _ _ (c .before .before .before .before .before .args .va) _ (sym (c .before .before .descriptor-at .ensures) ∙ c .enum-told .given .1))
+
+pub walk-spec : {M : Type 1} → statement M
+walk-spec =
+    tie.close
+    (tie.spec
+    mul-t8
+    add-t9
+    descriptor-at-requires
+    enum-known-d
+    level-one-requires
+    enum-told
+    returns
+    returns-2)

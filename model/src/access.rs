@@ -1,0 +1,278 @@
+//! An access, step by step, on the library machine.
+
+use crate::answers::{Abort, Answer, Fault, Status};
+use crate::cache::{half_of, store_index};
+use crate::calls::{Access, Kind};
+use crate::coverage::{Event, Watch};
+use crate::library::Lent;
+use crate::registers::{A, C, M, R, S, W};
+use crate::rights;
+use crate::state::{PlainRegisters, TlbEntry};
+use crate::tlb;
+use crate::walk::walk;
+use crate::words;
+
+/// Where an access goes once translation and rights have passed.
+#[derive(Clone, Copy, Debug, PartialEq, Eq)]
+pub struct Place {
+    pub physical: u32,
+    pub page: bool,
+    pub domain: u32,
+    pub cacheable: bool,
+    pub bufferable: bool,
+}
+
+impl Place {
+    /// With M clear the address is flat, neither cacheable nor bufferable, and counts as section.
+    pub fn flat(address: u32) -> Place {
+        Place {
+            physical: address,
+            page: false,
+            domain: 0,
+            cacheable: false,
+            bufferable: false,
+        }
+    }
+
+    pub fn mapped(entry: &TlbEntry, address: u32) -> Place {
+        Place {
+            physical: entry.physical(address),
+            page: entry.is_page(),
+            domain: entry.domain,
+            cacheable: entry.c == 1,
+            bufferable: entry.b == 1,
+        }
+    }
+
+    /// A line fill is outside memory.
+    pub fn fill_abort(&self) -> Abort {
+        self.abort(Status::FillSection, Status::FillPage)
+    }
+
+    /// Any other access is outside memory.
+    pub fn other_abort(&self) -> Abort {
+        self.abort(Status::OtherSection, Status::OtherPage)
+    }
+
+    fn abort(&self, section: Status, page: Status) -> Abort {
+        Abort {
+            status: if self.page { page } else { section },
+            domain: self.domain,
+        }
+    }
+}
+
+/// The address with its low bits cleared, or an alignment fault with A set.
+#[inline]
+pub fn aligned(registers: &PlainRegisters, access: &Access) -> Result<u32, Abort> {
+    let low = access.address & (access.width - 1);
+    if low != 0 && registers.has(A) {
+        return Err(Abort {
+            status: Status::Alignment,
+            domain: 0,
+        });
+    }
+    Ok(access.address - low)
+}
+
+/// Checks the rights of an access at a mapping.
+#[inline]
+pub fn check_rights(
+    registers: &PlainRegisters,
+    entry: &TlbEntry,
+    address: u32,
+    access: &Access,
+) -> Result<(), Abort> {
+    let index = rights::index(
+        registers.domain_value(entry.domain),
+        entry.permission(address),
+        registers.has(S),
+        registers.has(R),
+        access.privileged,
+        access.is_store(),
+    );
+    let status = match (rights::TABLE[index], entry.is_page()) {
+        (rights::ALLOWED, _) => return Ok(()),
+        (rights::DOMAIN_FAULT, false) => Status::DomainSection,
+        (rights::DOMAIN_FAULT, true) => Status::DomainPage,
+        (_, false) => Status::PermissionSection,
+        (_, true) => Status::PermissionPage,
+    };
+    Err(Abort {
+        status,
+        domain: entry.domain,
+    })
+}
+
+/// Serves an access that is not refused, the count of calls included.
+#[inline]
+pub fn serve<T: Watch>(lent: &mut Lent, access: &Access, watch: &mut T) -> Answer {
+    lent.state.counts.calls += 1;
+    match reach(lent, access, watch) {
+        Ok(value) if access.kind == Kind::SignedLoad => {
+            Answer::Signed(words::signed(value, access.width))
+        }
+        Ok(value) => Answer::Value(value),
+        Err(abort) => {
+            let fault = Fault {
+                status: abort.status,
+                domain: abort.domain,
+                address: access.address,
+            };
+            lent.registers.plain.fsr = fault.fsr();
+            lent.registers.plain.far = fault.address;
+            Answer::Fault(fault)
+        }
+    }
+}
+
+/// Alignment, translation and rights, then the cache, then buffer or memory.
+#[inline]
+fn reach<T: Watch>(lent: &mut Lent, access: &Access, watch: &mut T) -> Result<u32, Abort> {
+    let address = aligned(&lent.registers.plain, access)?;
+    if address != access.address {
+        watch.note(Event::LowBitsCleared);
+    }
+    let place = translate(lent, access, address, watch)?;
+    if let Some(index) = lent.state.cache.find(address) {
+        return Ok(hit(lent, index, access, address, watch));
+    }
+    match access.kind {
+        Kind::Store(value) => store_miss(lent, access, &place, value, watch),
+        _ => load_miss(lent, access, address, &place, watch),
+    }
+}
+
+/// Translation and rights. A mapping goes to the TLB before any rights are checked.
+#[inline]
+fn translate<T: Watch>(
+    lent: &mut Lent,
+    access: &Access,
+    address: u32,
+    watch: &mut T,
+) -> Result<Place, Abort> {
+    if !lent.registers.plain.has(M) {
+        watch.note(Event::FlatAccess);
+        return Ok(Place::flat(address));
+    }
+    let index = match tlb::lookup(&lent.state.tlb, address) {
+        Some(index) => {
+            watch.note(Event::TlbHit);
+            index
+        }
+        None => walk_into_tlb(lent, address, watch)?,
+    };
+    let entry = &lent.state.tlb[index];
+    check_rights(&lent.registers.plain, entry, address, access)?;
+    Ok(Place::mapped(entry, address))
+}
+
+/// A TLB miss: counted even if the walk then faults. Answers the new entry's index.
+fn walk_into_tlb<T: Watch>(lent: &mut Lent, address: u32, watch: &mut T) -> Result<usize, Abort> {
+    watch.note(Event::TlbMiss);
+    lent.state.counts.tlb_misses += 1;
+    let entry = walk(lent.memory, lent.registers.plain.table_base, address).found?;
+    watch.note(match entry.size {
+        0 => Event::SectionFound,
+        1 => Event::LargePageFound,
+        _ => Event::SmallPageFound,
+    });
+    Ok(tlb::place(
+        &mut lent.state.tlb,
+        &mut lent.registers.tlb_pointer,
+        entry,
+        watch,
+    ))
+}
+
+/// A hit serves loads and stores with no bounds test; a store marks its half.
+#[inline]
+fn hit<T: Watch>(
+    lent: &mut Lent,
+    index: usize,
+    access: &Access,
+    address: u32,
+    watch: &mut T,
+) -> u32 {
+    lent.state.counts.hits += 1;
+    if !lent.registers.plain.has(C) {
+        watch.note(Event::HitWhileDisabled);
+    }
+    let at = store_index(index, address);
+    match access.kind {
+        Kind::Store(value) => {
+            watch.note(Event::HitStore);
+            words::write(lent.store, at, access.width, value);
+            lent.state.cache.lines[index].dirty[half_of(address)] = 1;
+            0
+        }
+        _ => {
+            watch.note(Event::HitLoad);
+            words::read(lent.store, at, access.width)
+        }
+    }
+}
+
+/// A load that misses fills a line, or reads memory past the cache.
+fn load_miss<T: Watch>(
+    lent: &mut Lent,
+    access: &Access,
+    address: u32,
+    place: &Place,
+    watch: &mut T,
+) -> Result<u32, Abort> {
+    let inside = lent.has(place.physical);
+    if lent.registers.plain.has(M) && lent.registers.plain.has(C) && place.cacheable {
+        if !inside {
+            return Err(place.fill_abort());
+        }
+        let index = lent.cached().fill(address, place.physical >> 5, watch);
+        let at = store_index(index, address);
+        return Ok(words::read(lent.store, at, access.width));
+    }
+    if !inside {
+        return Err(place.other_abort());
+    }
+    watch.note(Event::UncachedLoad);
+    let buffer = &mut lent.state.buffer;
+    if buffer.overlaps_access(place.physical, access.width) {
+        watch.note(Event::DrainBeforeLoad);
+        buffer.drain(lent.memory);
+    }
+    Ok(words::read(
+        lent.memory,
+        place.physical as usize,
+        access.width,
+    ))
+}
+
+/// A store that misses is buffered, dropped, or drains the buffer and writes.
+fn store_miss<T: Watch>(
+    lent: &mut Lent,
+    access: &Access,
+    place: &Place,
+    value: u32,
+    watch: &mut T,
+) -> Result<u32, Abort> {
+    let inside = lent.has(place.physical);
+    let registers = &lent.registers.plain;
+    let buffered = registers.has(M) && registers.has(W) && (place.cacheable || place.bufferable);
+    let buffer = &mut lent.state.buffer;
+    match (buffered, inside) {
+        (true, true) => {
+            watch.note(Event::BufferedStore);
+            buffer.store(lent.memory, place.physical, access.width, value, watch);
+        }
+        (true, false) => watch.note(Event::DroppedStore),
+        (false, false) => return Err(place.other_abort()),
+        (false, true) => {
+            watch.note(Event::DirectStore);
+            if buffer.entries > 0 {
+                watch.note(Event::DrainBeforeStore);
+            }
+            buffer.drain(lent.memory);
+            words::write(lent.memory, place.physical as usize, access.width, value);
+        }
+    }
+    Ok(0)
+}

@@ -1,0 +1,44 @@
+//! Second model of the StrongARM SA-110's data side, written from the papers alone.
+//!
+//! "Document 01" is the scope paper; 000 is the reference manual, 001 the application note.
+//! The modules follow document 01:
+//!
+//! | document 01 | modules |
+//! |---|---|
+//! | The lent things | `state`, `machine`, `words` |
+//! | Refused calls | `refusals`, `soundness` |
+//! | Registers | `registers`, `cp15` |
+//! | An access, step by step | `access`, `walk`, `tlb`, `rights`, `cache`, `buffer` |
+//! | A look | `library` |
+//! | Rules for a run, the plain machine | `plain`, `rules`, `term3` |
+//!
+//! `library` holds the entry points: `start`, `call`, `run`, `look`.
+//! `random` makes runs and states; `coverage` counts what happened in them.
+
+pub mod access;
+pub mod answers;
+pub mod buffer;
+pub mod cache;
+pub mod calls;
+pub mod coverage;
+pub mod cp15;
+pub mod library;
+pub mod machine;
+pub mod plain;
+pub mod random;
+pub mod refusals;
+pub mod registers;
+pub mod rights;
+pub mod rules;
+pub mod soundness;
+pub mod state;
+pub mod term3;
+pub mod tlb;
+pub mod walk;
+pub mod words;
+
+pub use answers::{Answer, Fault, Status};
+pub use calls::Call;
+pub use library::{call, look, run, start};
+pub use machine::Machine;
+pub use state::{Registers, State};

@@ -1,0 +1,10 @@
+//! Random runs and states. Everything follows from a seed.
+
+pub mod damage;
+pub mod guided;
+pub mod proposals;
+pub mod rng;
+pub mod states;
+pub mod world;
+
+pub use rng::Rng;

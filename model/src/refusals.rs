@@ -1,0 +1,83 @@
+//! Refusals 1 to 12 in checking order.
+
+use crate::calls::Call;
+use crate::registers::{control_listed, operation, BIG_ENDIAN};
+use crate::soundness;
+use crate::state::{Registers, State, MEMORY_LIMIT, STORE_BYTES};
+
+/// Refusals 1 and 2: the lengths of the lent memory and store.
+pub fn of_lengths(memory: usize, store: usize) -> Option<u32> {
+    if !memory.is_multiple_of(32) || memory > MEMORY_LIMIT {
+        return Some(1);
+    }
+    if store != STORE_BYTES {
+        return Some(2);
+    }
+    None
+}
+
+/// Refusals 1 to 4: the lent things. 3 goes by the memory lent in this call.
+pub fn of_lent(state: &State, registers: &Registers, memory: usize, store: usize) -> Option<u32> {
+    if let Some(number) = of_lengths(memory, store) {
+        return Some(number);
+    }
+    if !soundness::is_sound(state, registers, memory as u32) {
+        return Some(3);
+    }
+    if state.memory_length as usize != memory {
+        return Some(4);
+    }
+    None
+}
+
+/// Refusals 5 to 12: the count of calls and the call's arguments.
+#[inline]
+pub fn of_call(calls: u32, call: &Call) -> Option<u32> {
+    if calls == u32::MAX {
+        return Some(5);
+    }
+    match *call {
+        Call::Load { width, .. } | Call::SignedLoad { width, .. } => of_width(width),
+        Call::Store { width, value, .. } => of_width(width).or_else(|| of_value(width, value)),
+        Call::Read {
+            privileged,
+            register,
+        } => of_read(privileged, register),
+        Call::Write {
+            privileged,
+            register,
+            opcode2,
+            crm,
+            value,
+        } => of_write(privileged, register, opcode2, crm, value),
+    }
+}
+
+fn of_width(width: u32) -> Option<u32> {
+    (!matches!(width, 1 | 2 | 4)).then_some(6)
+}
+
+fn of_value(width: u32, value: u32) -> Option<u32> {
+    (width < 4 && value >> (8 * width) != 0).then_some(7)
+}
+
+fn of_read(privileged: bool, register: u32) -> Option<u32> {
+    if !privileged {
+        return Some(8);
+    }
+    (register > 6).then_some(9)
+}
+
+fn of_write(privileged: bool, register: u32, opcode2: u32, crm: u32, value: u32) -> Option<u32> {
+    if !privileged {
+        return Some(8);
+    }
+    match register {
+        1 if value & BIG_ENDIAN != 0 => Some(11),
+        1 if !control_listed(value) => Some(12),
+        1..=6 => None,
+        7 | 8 if operation(register, opcode2, crm, value).is_none() => Some(10),
+        7 | 8 => None,
+        _ => Some(9),
+    }
+}
