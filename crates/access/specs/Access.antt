@@ -18,17 +18,17 @@ use Rattle.values.specs.declared.Search.the-variants.{At, Nothing}
 use Rattle.values.specs.declared.Answer.{Answer}
 use Rattle.values.specs.declared.Answer.the-variants as answer
 use Rattle.words.specs.Words.{valueAt, stored}
-use Rattle.words.specs.Signed.{signedOf}
+use Rattle.words.specs.Signed.{loadAnswer}
 use Rattle.buffer.specs.Buffer.{Backing, drained, buffered, ready}
 use Rattle.cache.specs.Dcache.{Dcache, Side, Sent, find, hitLoad, hitStore, victim, filled}
 use Rattle.sound.specs.Machine.{Machine, memoryOf}
-use Rattle.access.specs.declared.Translation.{Translation}
-use Rattle.access.specs.declared.Place.{Place}
-use Rattle.access.specs.declared.Checked.{Checked}
-use Rattle.access.specs.declared.Checked.the-variants.{Passed, Denied}
-use Rattle.access.specs.Alignment.{misaligned, cleared}
-use Rattle.access.specs.Translation.{translation, entriesAfter, pointerAfter, missesOf, checked}
-use Rattle.access.specs.Faults.{inside, fills, buffers, fillStatus, otherStatus, faultSet}
+use Rattle.translation.specs.declared.Translation.{Translation}
+use Rattle.translation.specs.declared.Place.{Place}
+use Rattle.translation.specs.declared.Checked.{Checked}
+use Rattle.translation.specs.declared.Checked.the-variants.{Passed, Denied}
+use Rattle.translation.specs.Alignment.{misaligned, cleared}
+use Rattle.translation.specs.Translation.{translation, entriesAfter, pointerAfter, missesOf, checked}
+use Rattle.translation.specs.Faults.{inside, fills, buffers, fillStatus, otherStatus, faultSet}
 
 -- a machine and what it answers
 pub record Stepped : Type 0 where
@@ -77,10 +77,6 @@ unfoldable pub faulted : Machine → Status → ℕ → VirtualAddress → Stepp
 faulted m s d address =
     let f : Fault = record { status = s; domain = d; address = address } in
     record { machine = withRegisters m (faultSet (m .cp15 .registers) f); answer = answer.Fault f }
-
--- a load's answer; "A signed load answers a signed number"
-abbrev pub loadAnswer : Bool → ℕ → ℕ → Answer
-loadAnswer signed width v = cond signed (answer.Signed (signedOf width v)) (answer.Value v)
 
 -- ---- alignment, translation and rights
 

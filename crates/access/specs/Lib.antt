@@ -1,5 +1,1 @@
-pub mod Refusals
-pub mod Alignment
-pub mod Translation
-pub mod Faults
 pub mod Access

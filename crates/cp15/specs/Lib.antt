@@ -1,3 +1,1 @@
-pub mod Refusals
-pub mod Registers
 pub mod Operations

@@ -11,8 +11,8 @@ use Rattle.sound.specs.Machine.{Machine}
 use Rattle.access.specs.Access.{Stepped, withRegisters, withSide, withCache, withBacking, withEntries, more, served}
 use Rattle.access.specs.Access as access
 use Rattle.values.specs.declared.Answer.the-variants as answer
-use Rattle.cp15.specs.Refusals.{isPair}
-use Rattle.cp15.specs.Registers.{readOf, writtenOf}
+use Rattle.registers.specs.Refusals.{isPair}
+use Rattle.registers.specs.Registers.{readOf, writtenOf}
 
 -- which operation a served write of register 7 or 8 asks for
 module _ (t : Transfer) where

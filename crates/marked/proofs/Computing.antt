@@ -10,11 +10,11 @@ use Rattle.buffer.specs.Buffer as buffer
 use Rattle.cache.specs.Dcache as cache
 use Rattle.sound.specs.Machine.{fresh}
 use Rattle.sound.specs.Soundness.{sound, tagsSound, tagTwice, entrySound, lineSound, slotSound, bufferSound, registersSound, countsSound, zeroOutside}
-use Rattle.access.specs.Alignment.{cleared}
-use Rattle.access.specs.Translation.{translation, walkedOnly, checkedBy}
-use Rattle.access.specs.Faults.{faultSet}
+use Rattle.translation.specs.Alignment.{cleared}
+use Rattle.translation.specs.Translation.{translation, walkedOnly, checkedBy}
+use Rattle.translation.specs.Faults.{faultSet}
 use Rattle.access.specs.Access as access
-use Rattle.cp15.specs.Registers.{readOf, writtenOf}
+use Rattle.registers.specs.Registers.{readOf, writtenOf}
 use Rattle.cp15.specs.Operations as cp15
 use Rattle.sa110.specs.Refusals.{refusal, stateRefusal}
 use Rattle.sa110.specs.Start.{startRefusal, started}

@@ -17,15 +17,15 @@ use Rattle.values.specs.declared.Call.the-variants.{Load, SignedLoad, Store, Re
 use Rattle.values.specs.declared.Answer.{Answer}
 use Rattle.values.specs.declared.Answer.the-variants as answer
 use Rattle.words.specs.Words.{valueAt, stored}
-use Rattle.access.specs.Access.{loadAnswer}
-use Rattle.access.specs.Alignment.{misaligned, cleared}
-use Rattle.access.specs.Translation.{walkedOnly, checked}
-use Rattle.access.specs.Faults.{inside, fills, buffers, fillStatus, otherStatus, faultSet}
-use Rattle.access.specs.declared.Place.{Place}
-use Rattle.access.specs.declared.Checked.{Checked}
-use Rattle.access.specs.declared.Checked.the-variants.{Passed, Denied}
-use Rattle.cp15.specs.Refusals.{countRefusal, callRefusal}
-use Rattle.cp15.specs.Registers.{readOf, writtenOf}
+use Rattle.words.specs.Signed.{loadAnswer}
+use Rattle.translation.specs.Alignment.{misaligned, cleared}
+use Rattle.translation.specs.Translation.{walkedOnly, checked}
+use Rattle.translation.specs.Faults.{inside, fills, buffers, fillStatus, otherStatus, faultSet}
+use Rattle.translation.specs.declared.Place.{Place}
+use Rattle.translation.specs.declared.Checked.{Checked}
+use Rattle.translation.specs.declared.Checked.the-variants.{Passed, Denied}
+use Rattle.registers.specs.Refusals.{countRefusal, callRefusal}
+use Rattle.registers.specs.Registers.{readOf, writtenOf}
 
 -- "It holds memory, and the five registers and a count of calls"
 pub record Plain : Type 0 where

@@ -16,7 +16,7 @@ use Rattle.walk.specs.declared.Mapping.the-variants.{Found, Failed}
 use Rattle.tlb.specs.Tlb.{translated}
 use Rattle.cache.specs.Dcache.{find}
 use Rattle.sound.specs.Machine.{Machine, memoryOf, storeOf}
-use Rattle.access.specs.Faults.{inside}
+use Rattle.translation.specs.Faults.{inside}
 use Rattle.sa110.specs.Refusals.{stateRefusal}
 
 -- the 32 bytes of a line of a list of bytes

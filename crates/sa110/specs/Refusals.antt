@@ -7,7 +7,7 @@ use lib.ListN.{length}
 use Rattle.values.specs.declared.Call.{Call}
 use Rattle.sound.specs.Machine.{Machine, memoryOf, storeOf}
 use Rattle.sound.specs.Soundness.{sound}
-use Rattle.cp15.specs.Refusals.{countRefusal, callRefusal}
+use Rattle.registers.specs.Refusals.{countRefusal, callRefusal}
 
 -- "1. The memory length is not a multiple of 32 or exceeds 16,777,216."
 abbrev pub memoryFits : List ℕ → Bool

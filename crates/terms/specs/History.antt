@@ -11,11 +11,11 @@ use Rattle.values.specs.declared.Access.{Access}
 use Rattle.values.specs.declared.Transfer.{Transfer}
 use Rattle.values.specs.declared.Call.{Call}
 use Rattle.values.specs.declared.Call.the-variants.{Load, SignedLoad, Store, Read, Write}
-use Rattle.access.specs.Alignment.{cleared}
-use Rattle.access.specs.Faults.{inside}
-use Rattle.access.specs.declared.Place.{Place}
-use Rattle.access.specs.declared.Checked.{Checked}
-use Rattle.access.specs.declared.Checked.the-variants.{Passed, Denied}
+use Rattle.translation.specs.Alignment.{cleared}
+use Rattle.translation.specs.Faults.{inside}
+use Rattle.translation.specs.declared.Place.{Place}
+use Rattle.translation.specs.declared.Checked.{Checked}
+use Rattle.translation.specs.declared.Checked.the-variants.{Passed, Denied}
 use Rattle.cp15.specs.Operations.{flushesDcache, flushesLine, cleansLine, drains, flushesTlb}
 use Rattle.plain.specs.Plain.{Plain, plainReach, plainRefusal, plainly}
 

@@ -19,9 +19,9 @@ use Rattle.walk.specs.Walk.{walk, firstAddress, secondAddress}
 use Rattle.walk.specs.Reads.{wordsRead}
 use Rattle.walk.specs.declared.Mapping.{Mapping}
 use Rattle.walk.specs.declared.Mapping.the-variants.{Found, Failed}
-use Rattle.access.specs.Alignment.{misaligned, cleared}
-use Rattle.access.specs.declared.Checked.{Checked}
-use Rattle.access.specs.declared.Checked.the-variants.{Passed, Denied}
+use Rattle.translation.specs.Alignment.{misaligned, cleared}
+use Rattle.translation.specs.declared.Checked.{Checked}
+use Rattle.translation.specs.declared.Checked.the-variants.{Passed, Denied}
 use Rattle.cp15.specs.Operations.{flushesDcache, flushesLine}
 use Rattle.plain.specs.Plain.{Plain, plainReach, plainRefusal, plainly}
 use Rattle.terms.specs.History.{Stage, never, stored, cleaned, drained, flushed, History, after}

@@ -28,12 +28,12 @@ use Rattle.walk.specs.declared.Descriptor.the-variants.{Word, Outside}
 use Rattle.tlb.specs.Tlb.{lookup, apOf}
 use Rattle.cache.specs.Dcache.{find}
 use Rattle.sound.specs.Machine.{Machine, memoryOf}
-use Rattle.access.specs.Alignment.{misaligned, cleared}
-use Rattle.access.specs.Translation.{translation, flatPlace, placeOf}
-use Rattle.access.specs.Faults.{inside, fills, buffers}
-use Rattle.access.specs.declared.Translation.{Translation}
-use Rattle.access.specs.declared.Translation.the-variants.{Flat, Held, Walked, Failed}
-use Rattle.access.specs.declared.Place.{Place}
+use Rattle.translation.specs.Alignment.{misaligned, cleared}
+use Rattle.translation.specs.Translation.{translation, flatPlace, placeOf}
+use Rattle.translation.specs.Faults.{inside, fills, buffers}
+use Rattle.translation.specs.declared.Translation.{Translation}
+use Rattle.translation.specs.declared.Translation.the-variants.{Flat, Held, Walked, Failed}
+use Rattle.translation.specs.declared.Place.{Place}
 use Rattle.sa110.specs.Refusals.{refusal}
 use Rattle.sa110.specs.Call.{served}
 

@@ -18,7 +18,7 @@ use Rattle.values.proofs.Maps.{map-set}
 use Rattle.values.proofs.InPlace.{Upto, upto-step, upto-end, map-constant}
 use Rattle.tlb.specs.Tlb.{covers, lookup, translated, apOf, quarterOf, placed, flushed, dropped, keptOf}
 use Rattle.tlb.specs.Packing.{entryOf, wordOf, entriesOf}
-use Rattle.tlb.specs.Ranges.{InRange}
+use Rattle.walk.specs.Ranges.{InRange}
 use Rattle.tlb.proofs.Packing.{entry-word, entry-zero, entry-at}
 
 -- ---- cover, by the word's size

@@ -11,7 +11,7 @@ use Rattle.values.specs.Empty.{emptyEntry}
 use Rattle.values.specs.declared.Entry.{Entry}
 use Rattle.values.proofs.Cases.{number-bit, number-low}
 use Rattle.tlb.specs.Packing.{entryOf, wordOf, entriesOf}
-use Rattle.tlb.specs.Ranges.{InRange}
+use Rattle.walk.specs.Ranges.{InRange}
 
 bit-of : (n : ℕ) (b : Bool) → n ≡ number b → eqb n 1 ≡ b
 bit-of n b e = ap (λ (x : ℕ). eqb x 1) e ∙ number-bit b

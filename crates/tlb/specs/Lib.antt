@@ -1,3 +1,2 @@
 pub mod Tlb
 pub mod Packing
-pub mod Ranges

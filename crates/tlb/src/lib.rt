@@ -6,7 +6,7 @@ ghost use lib.ListN.{length};
 ghost use Rattle.tlb.specs.Tlb as spec;
 ghost use Rattle.tlb.specs.Tlb.{covers, placed, flushed, dropped, stepped};
 ghost use Rattle.tlb.specs.Packing.{entryOf, wordOf, entriesOf};
-ghost use Rattle.tlb.specs.Ranges.{InRange};
+ghost use Rattle.walk.specs.Ranges.{InRange};
 use values::Entry;
 use values::PhysicalAddress;
 use values::Search;

@@ -2,6 +2,8 @@
 ghost use mathlib.Core.Path.{_≡_};
 ghost use Prim.Native.Nat.{_<_};
 ghost use Rattle.values.specs.Tests.{number};
+ghost use Rattle.values.specs.Answers.{statusOf};
+ghost use Rattle.values.specs.Control as spec;
 
 // A virtual address, 32 bits.
 pub struct VirtualAddress(pub u32);
@@ -128,4 +130,53 @@ pub fn bit_number(b: bool) -> u32
     ensures { λ r. ⌜ (r ≡ number b) × (r < 2) ⌝ }
 {
     if b { 1 } else { 0 }
+}
+
+// The number of a status.
+pub fn status_number(s: Status) -> u32
+    ensures { λ r. ⌜ (r ≡ statusOf s) × (r < 16) ⌝ }
+{
+    match s {
+        Status::Alignment => 1,
+        Status::WalkFirst => 12,
+        Status::WalkSecond => 14,
+        Status::TranslationSection => 5,
+        Status::TranslationPage => 7,
+        Status::DomainSection => 9,
+        Status::DomainPage => 11,
+        Status::PermissionSection => 13,
+        Status::PermissionPage => 15,
+        Status::FillSection => 4,
+        Status::FillPage => 6,
+        Status::OtherSection => 8,
+        Status::OtherPage => 10,
+    }
+}
+
+// Control bit M: the MMU is enabled.
+pub fn mmu(r: Registers) -> bool
+    ensures { λ b. ⌜ b ≡ spec.mmu r ⌝ }
+{
+    r.control / 1 % 2 == 1
+}
+
+// Control bit A: alignment is checked.
+pub fn alignment(r: Registers) -> bool
+    ensures { λ b. ⌜ b ≡ spec.alignment r ⌝ }
+{
+    r.control / 2 % 2 == 1
+}
+
+// Control bit C: the Dcache is enabled.
+pub fn dcache(r: Registers) -> bool
+    ensures { λ b. ⌜ b ≡ spec.dcache r ⌝ }
+{
+    r.control / 4 % 2 == 1
+}
+
+// Control bit W: the write buffer is enabled.
+pub fn write_buffer(r: Registers) -> bool
+    ensures { λ b. ⌜ b ≡ spec.writeBuffer r ⌝ }
+{
+    r.control / 8 % 2 == 1
 }

@@ -1,8 +1,9 @@
 // The walk of the page tables: it reads memory alone.
 ghost use mathlib.Core.Path.{_≡_};
-ghost use Prim.Native.Nat.{_%_};
+ghost use Prim.Native.Nat.{_%_, _<_};
 ghost use Rattle.walk.specs.Walk as walks;
 ghost use Rattle.walk.specs.Walk.{descriptorAt, first, second};
+ghost use Rattle.walk.specs.Ranges.{Is};
 use values::Entry;
 use values::PhysicalAddress;
 use values::Status;
@@ -34,7 +35,8 @@ pub fn descriptor_at(memory: &[u8], at: PhysicalAddress) -> Descriptor
 
 // The level 2 word: a large page, a small page, or a fault.
 fn level_two(domain: u32, va: VirtualAddress, w: u32) -> Mapping
-    ensures { λ r. ⌜ r ≡ second domain va (Descriptor.Word w) ⌝ }
+    requires { ⌜ domain < 16 ⌝ }
+    ensures { λ r. ⌜ Is r (second domain va (Descriptor.Word w)) ⌝ }
 {
     let kind = w % 4;
     if kind == 1 {
@@ -66,7 +68,7 @@ fn level_two(domain: u32, va: VirtualAddress, w: u32) -> Mapping
 
 // A second-level table: its word for the address, or a fault.
 fn second_level(memory: &[u8], va: VirtualAddress, w: u32) -> Mapping
-    ensures { λ r. ⌜ r ≡ second (walks.domainOf w) va (descriptorAt (now (memory .entry)) (walks.secondAddress w va)) ⌝ }
+    ensures { λ r. ⌜ Is r (second (walks.domainOf w) va (descriptorAt (now (memory .entry)) (walks.secondAddress w va))) ⌝ }
 {
     let domain = w / 32 % 16;
     let at = PhysicalAddress(w / 1024 * 1024 + 4 * (va.0 / 4096 % 256));
@@ -79,7 +81,7 @@ fn second_level(memory: &[u8], va: VirtualAddress, w: u32) -> Mapping
 
 // The level 1 word: a second-level table, a section, or a fault.
 fn level_one(memory: &[u8], va: VirtualAddress, w: u32) -> Mapping
-    ensures { λ r. ⌜ r ≡ first (now (memory .entry)) va (Descriptor.Word w) ⌝ }
+    ensures { λ r. ⌜ Is r (first (now (memory .entry)) va (Descriptor.Word w)) ⌝ }
 {
     let kind = w % 4;
     if kind == 1 {
@@ -103,7 +105,7 @@ fn level_one(memory: &[u8], va: VirtualAddress, w: u32) -> Mapping
 // The walk for a virtual address, by the table base.
 pub fn walk(memory: &[u8], base: u32, va: VirtualAddress) -> Mapping
     requires { ⌜ base % 16384 ≡ 0 ⌝ }
-    ensures { λ r. ⌜ r ≡ walks.walk (now (memory .entry)) base va ⌝ }
+    ensures { λ r. ⌜ Is r (walks.walk (now (memory .entry)) base va) ⌝ }
 {
     let at = PhysicalAddress(base + 4 * (va.0 / 1048576));
     let d = descriptor_at(memory, at);

@@ -1,8 +1,10 @@
 -- "A signed load answers a signed number, from −128 for a byte up to full words."
 use Prim.Native.Nat.{ℕ, _+_, _-_, _^_, _/_}
-use mathlib.Core.Bool.{cond}
+use mathlib.Core.Bool.{Bool, cond}
 use lib.Dec.{ltb}
 use lib.IntN.{ℤ, pos, negsuc}
+use Rattle.values.specs.declared.Answer.{Answer}
+use Rattle.values.specs.declared.Answer.the-variants.{Value, Signed}
 
 -- x is below twice half: from half upward it stands for x minus twice half. `negsuc n` is −(n + 1).
 unfoldable pub signedBy : ℕ → ℕ → ℤ
@@ -11,3 +13,7 @@ signedBy half x = cond (ltb x half) (pos x) (negsuc (half + half - 1 - x))
 -- the number of `width` bytes x as a signed number
 abbrev pub signedOf : ℕ → ℕ → ℤ
 signedOf width x = signedBy (256 ^ width / 2) x
+
+-- what a load of the number v answers
+abbrev pub loadAnswer : Bool → ℕ → ℕ → Answer
+loadAnswer signed width v = cond signed (Signed (signedOf width v)) (Value v)

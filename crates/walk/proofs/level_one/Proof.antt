@@ -1,3 +1,4 @@
+use Rattle.walk.proofs.Ranges.{section-ranged}
 use mathlib.Core.Path.{sym, _∙_}
 use Rattle.walk.proofs.Laws.{first-table, first-section, first-none}
 use borrow.Author.Needs.{needs}
@@ -13,7 +14,7 @@ second-level-requires c κs = search needs
 
 -- src/lib.rt:86:9
 returns : tie.Need-returns
-returns c = c .second-level .ensures ∙ sym (first-table _ (c .before .before .before .args .va) _ (c .before .if1 .taken))
+returns c = rw (first-table _ (c .before .before .before .args .va) _ (c .before .if1 .taken)) (c .second-level .ensures)
 
 -- src/lib.rt:92:20
 mul-t7 : tie.Need-mul-t7
@@ -29,11 +30,12 @@ mul-t14 c = search needs
 
 -- src/lib.rt:89:9
 returns-2 : tie.Need-returns-2
-returns-2 c = sym (first-section _ (c .before .before .before .before .args .va) _ (c .before .if2 .taken))
+returns-2 c = let a = c .before .before .before .before .args in
+    record { same = sym (first-section _ (a .va) _ (c .before .if2 .taken)); ranged = section-ranged (a .w) (a .va) (search needs) (search needs) }
 
 -- src/lib.rt:81:1
 returns-3 : tie.Need-returns-3
-returns-3 c = sym (first-none _ (c .before .before .before .args .va) _ (c .before .if1 .left) (c .if2 .left))
+returns-3 c = record { same = sym (first-none _ (c .before .before .before .args .va) _ (c .before .if1 .left) (c .if2 .left)); ranged = search needs }
 
 pub level-one-spec : {M : Type 1} → statement M
 level-one-spec =

@@ -1,3 +1,4 @@
+use Rattle.walk.proofs.Ranges.{large-ranged, small-ranged}
 use mathlib.Core.Path.{sym}
 use Rattle.walk.proofs.Laws.{second-large, second-small, second-none}
 use borrow.Author.Needs.{needs}
@@ -16,7 +17,8 @@ mul-t9 c = search needs
 
 -- src/lib.rt:41:9
 returns : tie.Need-returns
-returns c = sym (second-large _ (c .before .before .args .va) _ (c .before .if1 .taken))
+returns c = let a = c .before .before .args in
+    record { same = sym (second-large _ (a .va) _ (c .before .if1 .taken)); ranged = large-ranged (a .domain) (a .w) (a .va) (search needs) (search needs) (search needs) }
 
 -- src/lib.rt:56:20
 mul-t20 : tie.Need-mul-t20
@@ -28,11 +30,12 @@ mul-t22 c = search needs
 
 -- src/lib.rt:53:9
 returns-2 : tie.Need-returns-2
-returns-2 c = sym (second-small _ (c .before .before .before .args .va) _ (c .before .if2 .taken))
+returns-2 c = let a = c .before .before .before .args in
+    record { same = sym (second-small _ (a .va) _ (c .before .if2 .taken)); ranged = small-ranged (a .domain) (a .w) (a .va) (search needs) (search needs) (search needs) }
 
 -- src/lib.rt:36:1
 returns-3 : tie.Need-returns-3
-returns-3 c = sym (second-none _ (c .before .before .args .va) _ (c .before .if1 .left) (c .if2 .left))
+returns-3 c = record { same = sym (second-none _ (c .before .before .args .va) _ (c .before .if1 .left) (c .if2 .left)); ranged = search needs }
 
 pub level-two-spec : {M : Type 1} → statement M
 level-two-spec = tie.close (tie.spec mul-t7 mul-t9 returns mul-t20 mul-t22 returns-2 returns-3)

@@ -42,7 +42,7 @@ returns c = rw (← c .before .before .before .before .descriptor-at .ensures, c
 -- src/lib.rt:68:1
 returns-2 : tie.Need-returns-2
 unfolding second
-returns-2 c = rw (← c .before .before .descriptor-at .ensures, c .enum-told .given .1)
+returns-2 c = record { same = rw (← c .before .before .descriptor-at .ensures, c .enum-told .given .1); ranged = search needs }
 
 pub second-level-spec : {M : Type 1} → statement M
 second-level-spec =

@@ -35,12 +35,12 @@ enum-told c = search needs
 
 -- src/lib.rt:104:1
 returns : tie.Need-returns
-returns c = c .level-one .ensures ∙ sym (walk-by _ _ (c .before .before .before .before .before .before .before .args .va) _ (sym (c .before .before .before .before .descriptor-at .ensures) ∙ c .before .before .d .given .1))
+returns c = rw (walk-by _ _ (c .before .before .before .before .before .before .before .args .va) _ (sym (c .before .before .before .before .descriptor-at .ensures) ∙ c .before .before .d .given .1)) (c .level-one .ensures)
 
 -- src/lib.rt:104:1
 returns-2 : tie.Need-returns-2
 unfolding first
-returns-2 c = sym (walk-by _ _ (c .before .before .before .before .before .args .va) _ (sym (c .before .before .descriptor-at .ensures) ∙ c .enum-told .given .1))
+returns-2 c = record { same = sym (walk-by _ _ (c .before .before .before .before .before .args .va) _ (sym (c .before .before .descriptor-at .ensures) ∙ c .enum-told .given .1)); ranged = search needs }
 
 pub walk-spec : {M : Type 1} → statement M
 walk-spec =

@@ -7,7 +7,7 @@ use Rattle.values.specs.Control.{listed}
 use Rattle.values.specs.declared.Transfer.{Transfer}
 use Rattle.values.specs.declared.Call.{Call}
 use Rattle.values.specs.declared.Call.the-variants.{Load, SignedLoad, Store, Read, Write}
-use Rattle.access.specs.Refusals.{loadRefusal, storeRefusal}
+use Rattle.translation.specs.Refusals.{loadRefusal, storeRefusal}
 
 -- a transfer's opcode 2 and CRm are this pair
 abbrev pub isPair : Transfer → ℕ → ℕ → Bool

@@ -19,11 +19,11 @@ use Rattle.walk.specs.Walk.{walk}
 use Rattle.walk.specs.declared.Mapping.{Mapping}
 use Rattle.walk.specs.declared.Mapping.the-variants as walked
 use Rattle.tlb.specs.Tlb.{lookup, translated, apOf, placed, stepped}
-use Rattle.access.specs.declared.Translation.{Translation}
-use Rattle.access.specs.declared.Translation.the-variants.{Flat, Held, Walked, Failed}
-use Rattle.access.specs.declared.Place.{Place}
-use Rattle.access.specs.declared.Checked.{Checked}
-use Rattle.access.specs.declared.Checked.the-variants.{Passed, Denied}
+use Rattle.translation.specs.declared.Translation.{Translation}
+use Rattle.translation.specs.declared.Translation.the-variants.{Flat, Held, Walked, Failed}
+use Rattle.translation.specs.declared.Place.{Place}
+use Rattle.translation.specs.declared.Checked.{Checked}
+use Rattle.translation.specs.declared.Checked.the-variants.{Passed, Denied}
 
 -- ---- which mapping serves
 

@@ -9,7 +9,7 @@ use Rattle.values.specs.declared.Registers.{Registers}
 use Rattle.values.specs.declared.Fault.{Fault}
 use Rattle.values.specs.declared.Status.{Status}
 use Rattle.values.specs.declared.Status.the-variants.{FillSection, FillPage, OtherSection, OtherPage}
-use Rattle.access.specs.declared.Place.{Place}
+use Rattle.translation.specs.declared.Place.{Place}
 
 -- An access, and its line, lie inside a memory of n bytes: n is a multiple of 32 and no access crosses a line, so its first byte decides.
 abbrev pub inside : ℕ → PhysicalAddress → Bool

@@ -1,0 +1,5 @@
+pub mod Refusals
+pub mod Alignment
+pub mod Translation
+pub mod Faults
+pub mod Ranges

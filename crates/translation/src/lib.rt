@@ -1,0 +1,278 @@
+// Alignment, translation, rights and faults: what the library's machine and the plain machine share.
+ghost use mathlib.Core.Path.{_≡_};
+ghost use Prim.Native.Nat.{_<_, _%_, _^_};
+ghost use mathlib.Core.Bool.{true};
+ghost use Rattle.walk.specs.Ranges as ranges;
+ghost use Rattle.words.specs.Words.{isWidth};
+ghost use lib.ListN.{length};
+ghost use Rattle.rights.specs.Rights.{rightsTable};
+ghost use Rattle.walk.specs.Ranges.{InRange};
+ghost use Rattle.words.specs.Signed as signs;
+ghost use Rattle.translation.specs.Alignment as aligned;
+ghost use Rattle.translation.specs.Translation as spec;
+ghost use Rattle.translation.specs.Faults as faults;
+ghost use Rattle.translation.specs.Refusals.{loadRefusal, storeRefusal};
+ghost use Rattle.translation.specs.Ranges.{Ranged, Is, CheckedIs};
+use values::Access;
+use values::Answer;
+use values::Entry;
+use values::Fault;
+use values::PhysicalAddress;
+use values::Registers;
+use values::Status;
+use values::VirtualAddress;
+use walk::Mapping;
+
+// How an address is translated: flat, by a TLB entry, by a walk that found a mapping, or by a walk that failed with this status and domain.
+pub enum Translation {
+    Flat,
+    Held(Entry),
+    Walked(Entry),
+    Failed(Status, u32),
+}
+
+// Where an access whose translation and rights pass goes, and what the page says of it. `page` is false for a section and for flat.
+pub struct Place {
+    pub address: PhysicalAddress,
+    pub page: bool,
+    pub domain: u32,
+    pub cacheable: bool,
+    pub bufferable: bool,
+}
+
+// Whether alignment, translation and rights pass; if not, the fault's status and domain.
+pub enum Checked {
+    Passed(Place),
+    Denied(Status, u32),
+}
+
+// Refusal 6, or 0.
+pub fn load_refusal(a: Access) -> u32
+    ensures { λ r. ⌜ r ≡ loadRefusal a ⌝ }
+{
+    if words::is_width(a.width) { 0 } else { 6 }
+}
+
+// Refusal 6 or 7, or 0.
+pub fn store_refusal(a: Access, value: u32) -> u32
+    ensures { λ r. ⌜ r ≡ storeRefusal a value ⌝ }
+{
+    if words::is_width(a.width) {
+        if words::fits_width(a.width, value) {
+            0
+        } else {
+            7
+        }
+    } else {
+        6
+    }
+}
+
+// The low bits of an address, for a width of 1, 2 or 4.
+fn low_bits(width: u32, a: u32) -> u32
+    ensures { λ r. ⌜ r ≡ aligned.lowBits width a ⌝ }
+{
+    if width == 4 {
+        return a % 4;
+    }
+    if width == 2 {
+        return a % 2;
+    }
+    0
+}
+
+// Whether an access is a word not at a multiple of 4 or a halfword at an odd address.
+pub fn is_misaligned(a: Access) -> bool
+    ensures { λ r. ⌜ r ≡ aligned.misaligned a ⌝ }
+{
+    let va = a.address;
+    low_bits(a.width, va.0) != 0
+}
+
+// The address with its low bits cleared.
+pub fn cleared(a: Access) -> VirtualAddress
+    ensures { λ r. ⌜ r ≡ aligned.cleared a ⌝ }
+{
+    let va = a.address;
+    VirtualAddress(va.0 - low_bits(a.width, va.0))
+}
+
+// A walk's result as a translation.
+pub fn of_walk(m: Mapping) -> Translation
+    requires { ⌜ ranges.Ranged m ⌝ }
+    ensures { λ r. ⌜ Is r (spec.ofWalk m) ⌝ }
+{
+    match m {
+        Mapping::Found(e) => Translation::Walked(e),
+        Mapping::Failed(s, d) => Translation::Failed(s, d),
+    }
+}
+
+// The plain machine's translation: it walks for every access.
+pub fn walked_only(memory: &[u8], r: Registers, va: VirtualAddress) -> Translation
+    requires { ⌜ r .base % 16384 ≡ 0 ⌝ }
+    ensures { λ t. ⌜ Is t (spec.walkedOnly r (now (memory .entry)) va) ⌝ }
+{
+    if values::mmu(r) {
+        of_walk(walk::walk(memory, r.base, va))
+    } else {
+        Translation::Flat
+    }
+}
+
+// The place of a mapping.
+fn place_of(e: Entry, va: VirtualAddress) -> Place
+    requires { ⌜ InRange e ⌝ }
+    ensures { λ r. ⌜ r ≡ spec.placeOf e va ⌝ }
+{
+    Place {
+        address: tlb::translated(e, va),
+        page: e.size != 0,
+        domain: e.domain,
+        cacheable: e.cacheable,
+        bufferable: e.bufferable,
+    }
+}
+
+// What an entry of the rights table makes of an access.
+fn judged(right: u8, e: Entry, va: VirtualAddress) -> Checked
+    requires { ⌜ InRange e ⌝ }
+    ensures { λ r. ⌜ CheckedIs r (spec.judged right e va) ⌝ }
+{
+    if right == 0 {
+        return Checked::Passed(place_of(e, va));
+    }
+    if right == 1 {
+        if e.size != 0 {
+            return Checked::Denied(Status::DomainPage, e.domain);
+        }
+        return Checked::Denied(Status::DomainSection, e.domain);
+    }
+    if e.size != 0 {
+        return Checked::Denied(Status::PermissionPage, e.domain);
+    }
+    Checked::Denied(Status::PermissionSection, e.domain)
+}
+
+// Whether a mapping lets an access pass.
+pub fn check_by(
+    table: &[u8; 256],
+    r: Registers,
+    privileged: bool,
+    store: bool,
+    va: VirtualAddress,
+    e: Entry,
+) -> Checked
+    requires { ⌜ (now table ≡ rightsTable) × InRange e ⌝ }
+    ensures { λ c. ⌜ CheckedIs c (spec.checkedBy r privileged store va e) ⌝ }
+{
+    let value = rights::domain_value(r.domains, e.domain);
+    let ap = tlb::ap_of(e, va);
+    let right = rights::right(table, value, ap, r.control, privileged, store);
+    judged(right, e, va)
+}
+
+// Whether a translation lets an access pass.
+pub fn check(
+    table: &[u8; 256],
+    r: Registers,
+    privileged: bool,
+    store: bool,
+    va: VirtualAddress,
+    t: Translation,
+) -> Checked
+    requires { ⌜ (now table ≡ rightsTable) × Ranged t ⌝ }
+    ensures { λ c. ⌜ CheckedIs c (spec.checked r privileged store va t) ⌝ }
+{
+    match t {
+        Translation::Flat => Checked::Passed(Place {
+            address: PhysicalAddress(va.0),
+            page: false,
+            domain: 0,
+            cacheable: false,
+            bufferable: false,
+        }),
+        Translation::Held(e) => check_by(table, r, privileged, store, va, e),
+        Translation::Walked(e) => check_by(table, r, privileged, store, va, e),
+        Translation::Failed(s, d) => Checked::Denied(s, d),
+    }
+}
+
+// Whether a load that misses fills a line.
+pub fn fills(r: Registers, p: Place) -> bool
+    ensures { λ b. ⌜ b ≡ faults.fills r p ⌝ }
+{
+    if values::mmu(r) {
+        if values::dcache(r) {
+            return p.cacheable;
+        }
+        return false;
+    }
+    false
+}
+
+// Whether a store that misses is buffered.
+pub fn buffers(r: Registers, p: Place) -> bool
+    ensures { λ b. ⌜ b ≡ faults.buffers r p ⌝ }
+{
+    if values::mmu(r) {
+        if values::write_buffer(r) {
+            if p.cacheable {
+                return true;
+            }
+            return p.bufferable;
+        }
+        return false;
+    }
+    false
+}
+
+// The status of a line fill outside memory.
+pub fn fill_status(p: Place) -> Status
+    ensures { λ s. ⌜ s ≡ faults.fillStatus p ⌝ }
+{
+    if p.page {
+        Status::FillPage
+    } else {
+        Status::FillSection
+    }
+}
+
+// The status of any other access outside memory.
+pub fn other_status(p: Place) -> Status
+    ensures { λ s. ⌜ s ≡ faults.otherStatus p ⌝ }
+{
+    if p.page {
+        Status::OtherPage
+    } else {
+        Status::OtherSection
+    }
+}
+
+// The registers with FSR and FAR set by a fault.
+pub fn fault_set(r: Registers, f: Fault) -> Registers
+    requires { ⌜ f .domain < 16 ⌝ }
+    ensures { λ s. ⌜ s ≡ faults.faultSet r f ⌝ }
+{
+    let s = f.status;
+    let va = f.address;
+    Registers {
+        control: r.control,
+        base: r.base,
+        domains: r.domains,
+        fsr: f.domain * 16 + values::status_number(s),
+        far: va.0,
+    }
+}
+
+// What a load of a value answers.
+pub fn load_answer(signed: bool, width: u32, value: u32) -> Answer
+    requires { ⌜ (isWidth width ≡ true) × (value < 256 ^ width) ⌝ }
+    ensures { λ a. ⌜ a ≡ signs.loadAnswer signed width value ⌝ }
+{
+    if signed {
+        Answer::Signed(words::signed(width, value))
+    } else {
+        Answer::Value(value)
+    }
+}
