@@ -13,12 +13,14 @@ use Rattle.translation.specs.Refusals.{loadRefusal, storeRefusal}
 abbrev pub isPair : Transfer → ℕ → ℕ → Bool
 isPair t opcode crm = eqb (t .opcode) opcode && eqb (t .crm) crm
 
+-- "(1,10) ...; (4,10)", of register 7 alone
+abbrev pub linePair : Transfer → Bool
+linePair t = eqb (t .register) 7 && (isPair t 1 10 || isPair t 4 10)
+
 -- "Register 7, as (opcode 2, CRm): (0,7) and (0,6) ...; (0,5) ...; (1,6) ...; (1,10) ...; (4,10)". "Register 8: (0,7) and (0,6) ...;
 -- (0,5) ...; (1,6)"
 abbrev pub listedPair : Transfer → Bool
-listedPair t =
-    isPair t 0 7 || (isPair t 0 6 || (isPair t 0 5 || (isPair t 1 6
-    || (eqb (t .register) 7 && (isPair t 1 10 || isPair t 4 10)))))
+listedPair t = isPair t 0 7 || (isPair t 0 6 || (isPair t 0 5 || (isPair t 1 6 || linePair t)))
 
 -- "8. A CP15 call is made in user mode." "9. The register cannot be read (other than 0 to 6)"
 abbrev pub readRefusal : Transfer → ℕ
@@ -30,14 +32,15 @@ isWritable t = leb 1 (t .register) && leb (t .register) 8
 
 -- "10. The operation pair for register 7 or 8 is not listed." "11. A control write sets bit 7." "12. A control write gives an unlisted
 -- combination."
-abbrev pub writeRefusal : Transfer → ℕ → ℕ
-writeRefusal t v =
-    cond (not (t .privileged)) 8
-    (cond (not (isWritable t)) 9
-    (cond (leb 7 (t .register) && not (listedPair t)) 10
+abbrev pub valueRefusal : Transfer → ℕ → ℕ
+valueRefusal t v =
+    cond (leb 7 (t .register) && not (listedPair t)) 10
     (cond (eqb (t .register) 1 && bit v 7) 11
     (cond (eqb (t .register) 1 && not (listed v)) 12
-    0))))
+    0))
+
+abbrev pub writeRefusal : Transfer → ℕ → ℕ
+writeRefusal t v = cond (not (t .privileged)) 8 (cond (not (isWritable t)) 9 (valueRefusal t v))
 
 -- "5. The count of calls stands at 4,294,967,295."
 abbrev pub countRefusal : ℕ → ℕ → ℕ

@@ -1,3 +1,4 @@
+use mathlib.Core.Path.{_∙_}
 use mir.Facts.{toZ-ofZ}
 use mathlib.Core.Path.{ap}
 use Prim.Native.Nat.{_-_, _/_}
