@@ -1,0 +1,39 @@
+-- A list of calls as numbers, five a call: the call (0 load, 1 signed load, 2 store, 3 CP15 read, 4 CP15 write), privileged (1 or 0), the width or
+-- the register number, the address or opcode 2 × 16 + CRm, the value.
+use Prim.Native.Nat.{ℕ, _+_, _*_, _/_, _%_}
+use mathlib.Core.Bool.{Bool, true, false, cond, _&&_}
+use mathlib.Core.List.{List}
+use lib.Dec.{eqb, leb}
+use lib.ListN.{getD}
+use Rattle.values.specs.declared.Access.{Access}
+use Rattle.values.specs.declared.Transfer.{Transfer}
+use Rattle.values.specs.declared.Call.{Call}
+use Rattle.values.specs.declared.Call.the-variants.{Load, SignedLoad, Store, Read, Write}
+
+abbrev pub accessOf : ℕ → ℕ → ℕ → Access
+accessOf privileged width address = record { privileged = eqb privileged 1; width = width; address = record { 0 = address } }
+
+abbrev pub transferOf : ℕ → ℕ → ℕ → Transfer
+transferOf privileged register pair =
+    record { privileged = eqb privileged 1; register = register; opcode = pair / 16; crm = pair % 16 }
+
+-- the call of five numbers
+unfoldable pub callOf : ℕ → ℕ → ℕ → ℕ → ℕ → Call
+callOf kind privileged n a v =
+    cond (eqb kind 0) (Load (accessOf privileged n a))
+    (cond (eqb kind 1) (SignedLoad (accessOf privileged n a))
+    (cond (eqb kind 2) (Store (accessOf privileged n a) v)
+    (cond (eqb kind 3) (Read (transferOf privileged n a))
+    (Write (transferOf privileged n a) v))))
+
+-- the five numbers are a call
+abbrev pub isCall : ℕ → ℕ → Bool
+isCall kind privileged = leb kind 4 && leb privileged 1
+
+-- call i of a list, and whether it is one
+abbrev pub callAt : List ℕ → ℕ → Call
+callAt list i =
+    callOf (getD list (i * 5) 0) (getD list (i * 5 + 1) 0) (getD list (i * 5 + 2) 0) (getD list (i * 5 + 3) 0) (getD list (i * 5 + 4) 0)
+
+abbrev pub isCallAt : List ℕ → ℕ → Bool
+isCallAt list i = isCall (getD list (i * 5) 0) (getD list (i * 5 + 1) 0)

@@ -1,0 +1,98 @@
+// Calls and answers as numbers, for runs over lent lists.
+ghost use mathlib.Core.Path.{_≡_};
+ghost use Prim.Native.Nat.{_<_, _+_, _*_, _≤_};
+ghost use lib.ListN.{length};
+ghost use Rattle.trace.specs.Calls as spec;
+ghost use Rattle.trace.specs.Codes as codes;
+use values::Access;
+use values::Answer;
+use values::Call;
+use values::Transfer;
+use values::VirtualAddress;
+
+fn access_of(privileged: u32, width: u32, address: u32) -> Access
+    ensures { λ r. ⌜ r ≡ spec.accessOf privileged width address ⌝ }
+{
+    Access {
+        privileged: privileged == 1,
+        width,
+        address: VirtualAddress(address),
+    }
+}
+
+fn transfer_of(privileged: u32, register: u32, pair: u32) -> Transfer
+    ensures { λ r. ⌜ r ≡ spec.transferOf privileged register pair ⌝ }
+{
+    Transfer {
+        privileged: privileged == 1,
+        register,
+        opcode: pair / 16,
+        crm: pair % 16,
+    }
+}
+
+// The call of five numbers.
+pub fn call_of(kind: u32, privileged: u32, n: u32, a: u32, v: u32) -> Call
+    ensures { λ r. ⌜ r ≡ spec.callOf kind privileged n a v ⌝ }
+{
+    if kind == 0 {
+        return Call::Load(access_of(privileged, n, a));
+    }
+    if kind == 1 {
+        return Call::SignedLoad(access_of(privileged, n, a));
+    }
+    if kind == 2 {
+        return Call::Store(access_of(privileged, n, a), v);
+    }
+    if kind == 3 {
+        return Call::Read(transfer_of(privileged, n, a));
+    }
+    Call::Write(transfer_of(privileged, n, a), v)
+}
+
+// Call i of a list of five numbers a call.
+pub fn call_at(list: &[u32], i: usize) -> Call
+    requires { ⌜ i * 5 + 5 ≤ length (now list) ⌝ }
+    ensures { λ r. ⌜ r ≡ spec.callAt (now (list .entry)) i ⌝ }
+{
+    let at = i * 5;
+    call_of(list[at], list[at + 1], list[at + 2], list[at + 3], list[at + 4])
+}
+
+// Whether the five numbers of entry i are a call.
+pub fn is_call_at(list: &[u32], i: usize) -> bool
+    requires { ⌜ i * 5 + 5 ≤ length (now list) ⌝ }
+    ensures { λ r. ⌜ r ≡ spec.isCallAt (now (list .entry)) i ⌝ }
+{
+    let at = i * 5;
+    if list[at] <= 4 {
+        return list[at + 1] <= 1;
+    }
+    false
+}
+
+// A signed number as 32 bits.
+fn unsigned(z: i32) -> u32
+    ensures { λ r. ⌜ r ≡ codes.unsignedOf z ⌝ }
+{
+    if z < 0 {
+        4294967295 - ((!z) as u32)
+    } else {
+        z as u32
+    }
+}
+
+// An answer as one number.
+pub fn code(a: Answer) -> u64
+    ensures { λ r. ⌜ r ≡ codes.codeOf a ⌝ }
+{
+    match a {
+        Answer::Value(v) => v as u64,
+        Answer::Signed(z) => unsigned(z) as u64,
+        Answer::Fault(f) => {
+            let s = f.status;
+            4294967296 + (f.domain as u64) * 16 + (values::status_number(s) as u64)
+        },
+        Answer::Refused(n) => 8589934592 + (n as u64),
+    }
+}
