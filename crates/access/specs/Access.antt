@@ -3,7 +3,6 @@ use Prim.Native.Nat.{ℕ, _+_, _*_}
 use mathlib.Core.Bool.{Bool, true, false, cond, _&&_}
 use mathlib.Core.List.{List}
 use lib.ListN.{length}
-use Rattle.values.specs.Control.{alignment}
 use Rattle.values.specs.declared.VirtualAddress.{VirtualAddress}
 use Rattle.values.specs.declared.Registers.{Registers}
 use Rattle.values.specs.declared.Cp15.{Cp15}
@@ -26,7 +25,7 @@ use Rattle.translation.specs.declared.Translation.{Translation}
 use Rattle.translation.specs.declared.Place.{Place}
 use Rattle.translation.specs.declared.Checked.{Checked}
 use Rattle.translation.specs.declared.Checked.the-variants.{Passed, Denied}
-use Rattle.translation.specs.Alignment.{misaligned, cleared}
+use Rattle.translation.specs.Alignment.{alignmentFaults, cleared}
 use Rattle.translation.specs.Translation.{translation, entriesAfter, pointerAfter, missesOf, checked}
 use Rattle.translation.specs.Faults.{inside, fills, buffers, fillStatus, otherStatus, faultSet}
 
@@ -105,7 +104,7 @@ translate m a store =
 -- "Alignment: with A set, ... faults", status 1, domain 0, before translation
 unfoldable pub reach : Machine → Access → Bool → Reach
 reach m a store =
-    cond (alignment (m .cp15 .registers) && misaligned a) (record { machine = m; checked = Denied Alignment 0 }) (translate m a store)
+    cond (alignmentFaults (m .cp15 .registers) a) (record { machine = m; checked = Denied Alignment 0 }) (translate m a store)
 
 -- ---- loads
 

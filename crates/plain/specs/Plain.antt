@@ -4,11 +4,12 @@ use mathlib.Core.Bool.{Bool, true, false, cond, _&&_}
 use mathlib.Core.List.{List, [], _∷_}
 use lib.Dec.{eqb}
 use lib.ListN.{length}
-use Rattle.values.specs.Control.{mmu, alignment}
+use Rattle.values.specs.Control.{mmu}
 use Rattle.values.specs.Empty.{zeroRegisters}
 use Rattle.values.specs.declared.VirtualAddress.{VirtualAddress}
 use Rattle.values.specs.declared.Registers.{Registers}
 use Rattle.values.specs.declared.Access.{Access}
+use Rattle.values.specs.declared.Transfer.{Transfer}
 use Rattle.values.specs.declared.Fault.{Fault}
 use Rattle.values.specs.declared.Status.{Status}
 use Rattle.values.specs.declared.Status.the-variants.{Alignment}
@@ -18,7 +19,7 @@ use Rattle.values.specs.declared.Answer.{Answer}
 use Rattle.values.specs.declared.Answer.the-variants as answer
 use Rattle.words.specs.Words.{valueAt, stored}
 use Rattle.words.specs.Signed.{loadAnswer}
-use Rattle.translation.specs.Alignment.{misaligned, cleared}
+use Rattle.translation.specs.Alignment.{alignmentFaults, cleared}
 use Rattle.translation.specs.Translation.{walkedOnly, checked}
 use Rattle.translation.specs.Faults.{inside, fills, buffers, fillStatus, otherStatus, faultSet}
 use Rattle.translation.specs.declared.Place.{Place}
@@ -50,11 +51,14 @@ plainFaulted p s d address =
     let f : Fault = record { status = s; domain = d; address = address } in
     record { plain = withRegisters p (faultSet (p .registers) f); answer = answer.Fault f }
 
--- "An access checks alignment and then, if M is set, walks its memory and checks rights, as above; else the address is flat."
+-- "if M is set, walks its memory and checks rights, as above; else the address is flat"
+unfoldable pub plainTranslate : Registers → List ℕ → Access → Bool → Checked
+plainTranslate r memory a store = checked r (a .privileged) store (cleared a) (walkedOnly r memory (cleared a))
+
+-- "An access checks alignment and then"
 unfoldable pub plainReach : Plain → Access → Bool → Checked
 plainReach p a store =
-    cond (alignment (p .registers) && misaligned a) (Denied Alignment 0)
-    (checked (p .registers) (a .privileged) store (cleared a) (walkedOnly (p .registers) (p .memory) (cleared a)))
+    cond (alignmentFaults (p .registers) a) (Denied Alignment 0) (plainTranslate (p .registers) (p .memory) a store)
 
 -- "Inside memory a load reads". "Outside, ... a load faults with 4 or 6 if M, C and the page's C bit are set; any other access with 8 or 10."
 unfoldable pub plainLoadAt : Plain → Bool → Access → Checked → PlainStepped
@@ -77,13 +81,25 @@ plainStoreAt p a v (Passed l) =
     (cond (buffers (p .registers) l) (record { plain = p; answer = answer.Value 0 })
     (plainFaulted p (otherStatus l) (l .domain) (a .address)))
 
--- "CP15 calls act on its registers as above; writes to 7 and 8 do nothing."
+-- a load, a store, a CP15 read and a CP15 write; "CP15 calls act on its registers as above; writes to 7 and 8 do nothing."
+unfoldable pub plainLoad : Plain → Bool → Access → PlainStepped
+plainLoad p signed a = plainLoadAt p signed a (plainReach p a false)
+
+unfoldable pub plainStore : Plain → Access → ℕ → PlainStepped
+plainStore p a v = plainStoreAt p a v (plainReach p a true)
+
+unfoldable pub plainRead : Plain → Transfer → PlainStepped
+plainRead p t = record { plain = p; answer = answer.Value (readOf (p .registers) (t .register)) }
+
+unfoldable pub plainWrite : Plain → Transfer → ℕ → PlainStepped
+plainWrite p t v = record { plain = withRegisters p (writtenOf (p .registers) (t .register) v); answer = answer.Value 0 }
+
 abbrev pub plainDone : Plain → Call → PlainStepped
-plainDone p (Load a) = plainLoadAt p false a (plainReach p a false)
-plainDone p (SignedLoad a) = plainLoadAt p true a (plainReach p a false)
-plainDone p (Store a v) = plainStoreAt p a v (plainReach p a true)
-plainDone p (Read t) = record { plain = p; answer = answer.Value (readOf (p .registers) (t .register)) }
-plainDone p (Write t v) = record { plain = withRegisters p (writtenOf (p .registers) (t .register) v); answer = answer.Value 0 }
+plainDone p (Load a) = plainLoad p false a
+plainDone p (SignedLoad a) = plainLoad p true a
+plainDone p (Store a v) = plainStore p a v
+plainDone p (Read t) = plainRead p t
+plainDone p (Write t v) = plainWrite p t v
 
 -- "It refuses by 5 to 12 alone, 5 by that count"
 unfoldable pub plainRefusal : Plain → Call → ℕ

@@ -1,1 +1,229 @@
-// no code yet
+// The plain machine: no TLB, no Dcache, no write buffer.
+ghost use mathlib.Core.Path.{_≡_};
+ghost use mathlib.Core.Bool.{Bool, true};
+ghost use mathlib.Core.List.{List};
+ghost use Prim.Native.Nat.{ℕ, _<_, _+_, _*_, _%_, _≤_};
+ghost use lib.ListN.{length};
+ghost use Rattle.rights.specs.Rights.{rightsTable};
+ghost use Rattle.words.specs.Words.{isWidth, valueAt};
+ghost use Rattle.words.specs.Signed.{loadAnswer};
+ghost use Rattle.translation.specs.Ranges.{CheckedIs, PlaceRanged};
+ghost use Rattle.translation.specs.Alignment as aligned;
+ghost use Rattle.registers.specs.Refusals as refused;
+ghost use Rattle.plain.specs.Plain as spec;
+ghost use Rattle.plain.specs.Run as runs;
+ghost use Rattle.plain.specs.Code.{plainOf, steppedOf, Kept, Steps, Inside};
+use translation::Checked;
+use translation::Place;
+use values::Access;
+use values::Answer;
+use values::Call;
+use values::Fault;
+use values::Registers;
+use values::Status;
+use values::Transfer;
+use values::VirtualAddress;
+
+// The plain machine but for its memory: the five registers and the count of calls.
+pub struct PlainState {
+    pub registers: Registers,
+    pub calls: u32,
+}
+
+// A state and an answer.
+pub struct Outcome {
+    pub state: PlainState,
+    pub answer: Answer,
+}
+
+// A fault: FSR and FAR are set.
+fn faulted(s: PlainState, status: Status, domain: u32, address: VirtualAddress) -> Outcome
+    requires { ⌜ domain < 16 ⌝ }
+    ensures { λ r. ⌜ ((m : List ℕ) → steppedOf m r ≡ spec.plainFaulted (plainOf m s) status domain address) ⌝ }
+{
+    let f = Fault {
+        status,
+        domain,
+        address,
+    };
+    let r = s.registers;
+    let after = translation::fault_set(r, f);
+    let state = PlainState {
+        registers: after,
+        calls: s.calls,
+    };
+    Outcome {
+        state,
+        answer: Answer::Fault(f),
+    }
+}
+
+// Alignment, translation and rights.
+fn reach(table: &[u8; 256], memory: &[u8], s: PlainState, a: Access, store: bool) -> Checked
+    requires { ⌜ (now table ≡ rightsTable) × Kept (plainOf (now memory) s) ⌝ }
+    ensures { λ r. ⌜ CheckedIs (aligned.cleared a) r (spec.plainReach (plainOf (now (memory .entry)) s) a store) ⌝ }
+{
+    let r = s.registers;
+    if translation::faults_alignment(r, a) {
+        return Checked::Denied(Status::Alignment, 0);
+    }
+    translate(table, memory, r, a, store)
+}
+
+// Translation and rights.
+fn translate(table: &[u8; 256], memory: &[u8], r: Registers, a: Access, store: bool) -> Checked
+    requires { ⌜ (now table ≡ rightsTable) × (r .base % 16384 ≡ 0) ⌝ }
+    ensures { λ c. ⌜ CheckedIs (aligned.cleared a) c (spec.plainTranslate r (now (memory .entry)) a store) ⌝ }
+{
+    let va = translation::cleared(a);
+    let t = translation::walked_only(memory, r, va);
+    translation::check(table, r, a.privileged, store, va, t)
+}
+
+// The answer of a load inside memory.
+fn load_inside(memory: &[u8], signed: bool, a: Access, p: Place) -> Answer
+    requires { ⌜ Inside (length (now memory)) a p ⌝ }
+    ensures { λ r. ⌜ r ≡ loadAnswer signed (a .width) (valueAt (a .width) (now (memory .entry)) (p .address .0)) ⌝ }
+{
+    let pa = p.address;
+    let v = words::load(memory, pa.0 as usize, a.width);
+    translation::load_answer(signed, a.width, v)
+}
+
+// A load that passed, inside memory or outside.
+fn load_passed(memory: &[u8], s: PlainState, signed: bool, a: Access, p: Place) -> Outcome
+    requires { ⌜ Kept (plainOf (now memory) s) × (isWidth (a .width) ≡ true) × PlaceRanged (aligned.cleared a) p ⌝ }
+    ensures { λ r. ⌜ Steps (steppedOf (now (memory .entry)) r) (spec.plainLoadAt (plainOf (now (memory .entry)) s) signed a (Checked.Passed p)) ⌝ }
+{
+    let pa = p.address;
+    let address = a.address;
+    let r = s.registers;
+    if (pa.0 as usize) < memory.len() {
+        return Outcome {
+            state: s,
+            answer: load_inside(memory, signed, a, p),
+        };
+    }
+    if translation::fills(r, p) {
+        return faulted(s, translation::fill_status(p), p.domain, address);
+    }
+    faulted(s, translation::other_status(p), p.domain, address)
+}
+
+// A load.
+fn load(table: &[u8; 256], memory: &[u8], s: PlainState, signed: bool, a: Access) -> Outcome
+    requires { ⌜ (now table ≡ rightsTable) × Kept (plainOf (now memory) s) × (isWidth (a .width) ≡ true) ⌝ }
+    ensures { λ r. ⌜ Steps (steppedOf (now (memory .entry)) r) (spec.plainLoad (plainOf (now (memory .entry)) s) signed a) ⌝ }
+{
+    let address = a.address;
+    let c = reach(table, memory, s, a, false);
+    match c {
+        Checked::Passed(p) => load_passed(memory, s, signed, a, p),
+        Checked::Denied(status, d) => faulted(s, status, d, address),
+    }
+}
+
+// A store that passed, inside memory or outside.
+fn store_passed(memory: &mut [u8], s: PlainState, a: Access, v: u32, p: Place) -> Outcome
+    requires { ⌜ Kept (plainOf (now memory) s) × (isWidth (a .width) ≡ true) × PlaceRanged (aligned.cleared a) p ⌝ }
+    ensures { λ r. ⌜ Steps (steppedOf (now (memory .exit)) r) (spec.plainStoreAt (plainOf (now (memory .entry)) s) a v (Checked.Passed p)) ⌝ }
+{
+    let pa = p.address;
+    let address = a.address;
+    let r = s.registers;
+    if (pa.0 as usize) < memory.len() {
+        words::store(memory, pa.0 as usize, a.width, v);
+        return Outcome {
+            state: s,
+            answer: Answer::Value(0),
+        };
+    }
+    if translation::buffers(r, p) {
+        return Outcome {
+            state: s,
+            answer: Answer::Value(0),
+        };
+    }
+    faulted(s, translation::other_status(p), p.domain, address)
+}
+
+// A store.
+fn store(table: &[u8; 256], memory: &mut [u8], s: PlainState, a: Access, v: u32) -> Outcome
+    requires { ⌜ (now table ≡ rightsTable) × Kept (plainOf (now memory) s) × (isWidth (a .width) ≡ true) ⌝ }
+    ensures { λ r. ⌜ Steps (steppedOf (now (memory .exit)) r) (spec.plainStore (plainOf (now (memory .entry)) s) a v) ⌝ }
+{
+    let address = a.address;
+    let c = reach(table, memory, s, a, true);
+    match c {
+        Checked::Passed(p) => store_passed(memory, s, a, v, p),
+        Checked::Denied(status, d) => faulted(s, status, d, address),
+    }
+}
+
+// A CP15 read.
+fn read(s: PlainState, t: Transfer) -> Outcome
+    requires { ⌜ s .registers .control < 8192 ⌝ }
+    ensures { λ r. ⌜ ((m : List ℕ) → steppedOf m r ≡ spec.plainRead (plainOf m s) t) ⌝ }
+{
+    let r = s.registers;
+    Outcome {
+        state: s,
+        answer: Answer::Value(registers::read(r, t.register)),
+    }
+}
+
+// A CP15 write.
+fn write(s: PlainState, t: Transfer, v: u32) -> Outcome
+    ensures { λ r. ⌜ ((m : List ℕ) → steppedOf m r ≡ spec.plainWrite (plainOf m s) t v) ⌝ }
+{
+    let r = s.registers;
+    let after = registers::written(r, t.register, v);
+    let state = PlainState {
+        registers: after,
+        calls: s.calls,
+    };
+    Outcome {
+        state,
+        answer: Answer::Value(0),
+    }
+}
+
+// A call that is not refused.
+fn done(table: &[u8; 256], memory: &mut [u8], s: PlainState, c: Call) -> Outcome
+    requires { ⌜ (now table ≡ rightsTable) × Kept (plainOf (now memory) s) × (refused.callRefusal c ≡ 0) ⌝ }
+    ensures { λ r. ⌜ Steps (steppedOf (now (memory .exit)) r) (spec.plainDone (plainOf (now (memory .entry)) s) c) ⌝ }
+{
+    match c {
+        Call::Load(a) => load(table, memory, s, false, a),
+        Call::SignedLoad(a) => load(table, memory, s, true, a),
+        Call::Store(a, v) => store(table, memory, s, a, v),
+        Call::Read(t) => read(s, t),
+        Call::Write(t, v) => write(s, t, v),
+    }
+}
+
+// One call.
+pub fn step(table: &[u8; 256], memory: &mut [u8], s: PlainState, c: Call) -> Outcome
+    requires { ⌜ (now table ≡ rightsTable) × Kept (plainOf (now memory) s) ⌝ }
+    ensures { λ r. ⌜ Steps (steppedOf (now (memory .exit)) r) (spec.plainly (plainOf (now (memory .entry)) s) c) ⌝ }
+{
+    if s.calls == 4294967295 {
+        return Outcome {
+            state: s,
+            answer: Answer::Refused(5),
+        };
+    }
+    let n = registers::call_refusal(c);
+    if n != 0 {
+        return Outcome {
+            state: s,
+            answer: Answer::Refused(n),
+        };
+    }
+    let r = s.registers;
+    let counted = PlainState {
+        registers: r,
+        calls: s.calls + 1,
+    };
+    done(table, memory, counted, c)
+}

@@ -7,7 +7,7 @@ use lib.Dec.{eqb}
 use lib.ListN.{length}
 use Rattle.values.specs.Tests.{all}
 use Rattle.values.specs.Addresses.{virtualLine, physicalLine}
-use Rattle.values.specs.Control.{mmu, alignment}
+use Rattle.values.specs.Control.{mmu}
 use Rattle.values.specs.declared.VirtualAddress.{VirtualAddress}
 use Rattle.values.specs.declared.PhysicalAddress.{PhysicalAddress}
 use Rattle.values.specs.declared.Access.{Access}
@@ -19,7 +19,7 @@ use Rattle.walk.specs.Walk.{walk, firstAddress, secondAddress}
 use Rattle.walk.specs.Reads.{wordsRead}
 use Rattle.walk.specs.declared.Mapping.{Mapping}
 use Rattle.walk.specs.declared.Mapping.the-variants.{Found, Failed}
-use Rattle.translation.specs.Alignment.{misaligned, cleared}
+use Rattle.translation.specs.Alignment.{alignmentFaults, cleared}
 use Rattle.translation.specs.declared.Checked.{Checked}
 use Rattle.translation.specs.declared.Checked.the-variants.{Passed, Denied}
 use Rattle.cp15.specs.Operations.{flushesDcache, flushesLine}
@@ -74,7 +74,7 @@ R3 h t v =
 
 -- an access for which the plain machine walks: one that passes alignment with M set
 abbrev pub walks : Plain → Access → Bool
-walks p a = mmu (p .registers) && not (alignment (p .registers) && misaligned a)
+walks p a = mmu (p .registers) && not (alignmentFaults (p .registers) a)
 
 -- "a word read by the plain walk of an access has, after its last store, had its line cleaned, then a drain, then a whole TLB flush"
 abbrev pub R4 : Plain → History → VirtualAddress → Type 0

@@ -6,7 +6,7 @@ use mathlib.Core.Path.{_≡_}
 use mathlib.Core.List.{List, [], _∷_}
 use lib.Dec.{eqb}
 use lib.ListN.{length, getD}
-use Rattle.values.specs.Control.{mmu, alignment, system, rom}
+use Rattle.values.specs.Control.{mmu, system, rom}
 use Rattle.values.specs.Empty.{emptyEntry}
 use Rattle.values.specs.declared.VirtualAddress.{VirtualAddress}
 use Rattle.values.specs.declared.Registers.{Registers}
@@ -28,7 +28,7 @@ use Rattle.walk.specs.declared.Descriptor.the-variants.{Word, Outside}
 use Rattle.tlb.specs.Tlb.{lookup, apOf}
 use Rattle.cache.specs.Dcache.{find}
 use Rattle.sound.specs.Machine.{Machine, memoryOf}
-use Rattle.translation.specs.Alignment.{misaligned, cleared}
+use Rattle.translation.specs.Alignment.{alignmentFaults, cleared}
 use Rattle.translation.specs.Translation.{translation, flatPlace, placeOf}
 use Rattle.translation.specs.Faults.{inside, fills, buffers}
 use Rattle.translation.specs.declared.Translation.{Translation}
@@ -123,7 +123,7 @@ module _ (m : Machine) (a : Access) (store : Bool) where
   -- outside memory on line fill 4, 6, otherwise 8, 10."
   unfoldable pub rows : List Row
   rows =
-      row (alignment regs && misaligned a) Alignment 0
+      row (alignmentFaults regs a) Alignment 0
       ∷ row (walked && isOutside one) WalkFirst 0
       ∷ row (walked && (hasBits 1 one && isOutside two)) WalkSecond (domainOf (wordIn one))
       ∷ row (walked && (hasBits 0 one || hasBits 3 one)) TranslationSection 0

@@ -1,17 +1,25 @@
 -- Bounds and cases of alignment, translation and faults.
-use Prim.Native.Nat.{ℕ, _<_, _≤_, _%_}
+use Prim.Native.Nat.{ℕ, _+_, _<_, _≤_, _%_}
 use native.Mathlib.Omega.{arith}
 use mathlib.Core.Bool.{Bool, true, false, cond}
 use mathlib.Core.Path.{_≡_, refl, sym, _∙_, ap}
 use mathlib.Core.List.{List}
 use lib.Dec.{eqb}
-use borrow.Author.Tests.{eq-eqb, ne-eqb}
+use borrow.Author.Tests.{eqb-true, eqb-false}
 use Rattle.values.specs.Control.{mmu}
 use Rattle.values.specs.declared.VirtualAddress.{VirtualAddress}
 use Rattle.values.specs.declared.Registers.{Registers}
+use Rattle.values.specs.declared.Access.{Access}
+use Rattle.values.specs.declared.Entry.{Entry}
 use Rattle.values.proofs.Cases.{case}
+use Rattle.words.specs.Words.{isWidth}
+use Rattle.words.proofs.Widths.{is-one}
 use Rattle.walk.specs.Walk.{walk}
-use Rattle.translation.specs.Alignment.{lowBits}
+use Rattle.walk.specs.Ranges.{InRange}
+use Rattle.tlb.specs.Tlb.{translated}
+use Rattle.tlb.proofs.Laws.{translated-section, translated-large, translated-small}
+use Rattle.translation.specs.Refusals.{loadRefusal, storeRefusal}
+use Rattle.translation.specs.Alignment.{lowBits, cleared}
 use Rattle.translation.specs.Translation.{ofWalk, walkedOnly}
 use Rattle.translation.specs.declared.Translation.the-variants.{Flat}
 
@@ -29,3 +37,32 @@ module _ (r : Registers) (memory : List ℕ) (va : VirtualAddress) where
   pub walked-clear : mmu r ≡ false → walkedOnly r memory va ≡ Flat
   unfolding walkedOnly
   walked-clear h = rw h
+
+-- an address and its translation are the same within a small page
+pub translated-within : (e : Entry) (va : VirtualAddress) → InRange e → translated e va .0 % 4096 ≡ va .0 % 4096
+translated-within e va r =
+    case (eqb (e .size) 0)
+    (λ t. rw (translated-section e va (eqb-true (e .size) 0 t)) (let h = r .section (eqb-true (e .size) 0 t) in omega arith))
+    (λ t.
+    case (eqb (e .size) 1)
+    (λ u. rw (translated-large e va (eqb-true (e .size) 1 u)) (let h = r .large (eqb-true (e .size) 1 u) in omega arith))
+    (λ u. rw (translated-small e va (eqb-false (e .size) 0 t) (eqb-false (e .size) 1 u)) (omega (arith, r .pbase))))
+
+-- an access inside a memory whose length is a multiple of 32 lies in it whole: its place is as far in a small page as its cleared address
+pub access-fits : (a : Access) (pa n : ℕ) → isWidth (a .width) ≡ true → pa % 4096 ≡ cleared a .0 % 4096 → pa < n → n % 32 ≡ 0
+    → pa + a .width ≤ n
+unfolding cleared
+access-fits a pa n w e h m =
+    case (eqb (a .width) 4)
+    (λ t. let k : a .width ≡ 4 = eqb-true (a .width) 4 t in let f = rw t at e in omega arith)
+    (λ t.
+    case (eqb (a .width) 2)
+    (λ u. let k : a .width ≡ 2 = eqb-true (a .width) 2 u in let f = rw (t, u) at e in omega arith)
+    (λ u. let k : a .width ≡ 1 = is-one (a .width) w (eqb-false (a .width) 4 t) (eqb-false (a .width) 2 u) in omega arith))
+
+-- an access that is not refused has a width, and a store's value fits it
+pub load-accepted : (a : Access) → loadRefusal a ≡ 0 → isWidth (a .width) ≡ true
+load-accepted a e = case (isWidth (a .width)) (λ t. t) (λ t. let f = rw t at e in absurd (omega arith))
+
+pub store-accepted : (a : Access) (v : ℕ) → storeRefusal a v ≡ 0 → isWidth (a .width) ≡ true
+store-accepted a v e = case (isWidth (a .width)) (λ t. t) (λ t. let f = rw t at e in absurd (omega arith))

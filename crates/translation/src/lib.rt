@@ -89,6 +89,16 @@ pub fn is_misaligned(a: Access) -> bool
     low_bits(a.width, va.0) != 0
 }
 
+// Whether an access faults by its alignment.
+pub fn faults_alignment(r: Registers, a: Access) -> bool
+    ensures { λ b. ⌜ b ≡ aligned.alignmentFaults r a ⌝ }
+{
+    if values::alignment(r) {
+        return is_misaligned(a);
+    }
+    false
+}
+
 // The address with its low bits cleared.
 pub fn cleared(a: Access) -> VirtualAddress
     ensures { λ r. ⌜ r ≡ aligned.cleared a ⌝ }
@@ -137,7 +147,7 @@ fn place_of(e: Entry, va: VirtualAddress) -> Place
 // What an entry of the rights table makes of an access.
 fn judged(right: u8, e: Entry, va: VirtualAddress) -> Checked
     requires { ⌜ InRange e ⌝ }
-    ensures { λ r. ⌜ CheckedIs r (spec.judged right e va) ⌝ }
+    ensures { λ r. ⌜ CheckedIs va r (spec.judged right e va) ⌝ }
 {
     if right == 0 {
         return Checked::Passed(place_of(e, va));
@@ -164,7 +174,7 @@ pub fn check_by(
     e: Entry,
 ) -> Checked
     requires { ⌜ (now table ≡ rightsTable) × InRange e ⌝ }
-    ensures { λ c. ⌜ CheckedIs c (spec.checkedBy r privileged store va e) ⌝ }
+    ensures { λ c. ⌜ CheckedIs va c (spec.checkedBy r privileged store va e) ⌝ }
 {
     let value = rights::domain_value(r.domains, e.domain);
     let ap = tlb::ap_of(e, va);
@@ -182,7 +192,7 @@ pub fn check(
     t: Translation,
 ) -> Checked
     requires { ⌜ (now table ≡ rightsTable) × Ranged t ⌝ }
-    ensures { λ c. ⌜ CheckedIs c (spec.checked r privileged store va t) ⌝ }
+    ensures { λ c. ⌜ CheckedIs va c (spec.checked r privileged store va t) ⌝ }
 {
     match t {
         Translation::Flat => Checked::Passed(Place {

@@ -36,7 +36,7 @@ enum-known-t-3 c = search needs
 
 -- src/lib.rt:176:1
 returns : tie.Need-returns
-returns c = rw (c .enum-told .given .1) (record { same = refl; ranged = search needs })
+returns c = rw (c .enum-told .given .1) (record { same = refl; ranged = record { domain = search needs; within = refl } })
 
 -- src/lib.rt:176:1
 returns-2 : tie.Need-returns-2

@@ -1,3 +1,4 @@
+use Rattle.translation.proofs.Laws.{translated-within}
 use mathlib.Core.Path.{ap}
 use native.Mathlib.Omega.{arith}
 use Prim.Native.Nat.{_-_, _/_}
@@ -19,7 +20,11 @@ place-of-requires c κs = search needs
 
 -- src/lib.rt:143:9
 returns : tie.Need-returns
-returns c = record { same = rw (c .before .if1 .taken) (ap Passed (c .place-of .ensures)); ranged = rw (c .place-of .ensures) (omega (arith, c .before .before .pre .domain)) }
+returns c = let a = c .before .before .args in
+    record {
+      same = rw (c .before .if1 .taken) (ap Passed (c .place-of .ensures));
+      ranged = rw (c .place-of .ensures) (record { domain = c .before .before .pre .domain; within = translated-within (a .e) (a .va) (c .before .before .pre) });
+    }
 
 -- src/lib.rt:147:13
 returns-2 : tie.Need-returns-2

@@ -1,0 +1,19 @@
+use Rattle.plain.specs.Plain.{plainFaulted}
+use borrow.Author.Needs.{needs}
+use Rattle.plain.proofs.faulted.Statement.{statement}
+use Rattle.plain.proofs.faulted.Tie as tie
+use Rattle.plain.proofs.faulted.Reads as reads
+use Rattle.plain.proofs.faulted.Lts as lts
+use Rattle.translation.proofs.fault_set.Reads as fault-set-reads
+
+-- src/lib.rt:50:9
+fault-set-requires : tie.Need-fault-set-requires
+fault-set-requires c κs = search needs
+
+-- src/lib.rt:40:1
+returns : tie.Need-returns
+unfolding plainFaulted
+returns c = λ m. rw (c .fault-set .ensures)
+
+pub faulted-spec : {M : Type 1} → statement M
+faulted-spec = tie.close (tie.spec fault-set-requires returns)
