@@ -2,7 +2,7 @@
 ghost use mathlib.Core.Path.{_≡_};
 ghost use mathlib.Core.Bool.{Bool, true};
 ghost use mathlib.Core.List.{List};
-ghost use Prim.Native.Nat.{ℕ, _<_, _+_, _*_, _%_, _≤_};
+ghost use Prim.Native.Nat.{ℕ, _<_, _+_, _*_, _%_, _≤_, min};
 ghost use lib.ListN.{length};
 ghost use Rattle.rights.specs.Rights.{rightsTable};
 ghost use Rattle.words.specs.Words.{isWidth, valueAt};
@@ -12,7 +12,7 @@ ghost use Rattle.translation.specs.Alignment as aligned;
 ghost use Rattle.registers.specs.Refusals as refused;
 ghost use Rattle.plain.specs.Plain as spec;
 ghost use Rattle.plain.specs.Run as runs;
-ghost use Rattle.plain.specs.Code.{plainOf, steppedOf, Kept, Steps, Inside};
+ghost use Rattle.plain.specs.Code.{plainOf, steppedOf, leftOf, Kept, Steps, Inside, Runs};
 use translation::Checked;
 use translation::Place;
 use values::Access;
@@ -226,4 +226,99 @@ pub fn step(table: &[u8; 256], memory: &mut [u8], s: PlainState, c: Call) -> Out
         calls: s.calls + 1,
     };
     done(table, memory, counted, c)
+}
+
+// What a run leaves beside the lent lists: the state, how many calls were made, and refusal 1 or 0.
+pub struct Ran {
+    pub state: PlainState,
+    pub made: usize,
+    pub refusal: u32,
+}
+
+// The registers and the count at the start.
+fn zero_state() -> PlainState
+    ensures { λ r. ⌜ ((m : List ℕ) → plainOf m r ≡ spec.plainStart m) ⌝ }
+{
+    let registers = Registers {
+        control: 0,
+        base: 0,
+        domains: 0,
+        fsr: 0,
+        far: 0,
+    };
+    PlainState {
+        registers,
+        calls: 0,
+    }
+}
+
+// The first n calls of a list, from the start.
+fn run_calls(
+    table: &[u8; 256],
+    memory: &mut [u8],
+    calls: &[u32],
+    answers: &mut [u64],
+    n: usize,
+) -> Ran
+    requires { ⌜ (now table ≡ rightsTable) × Runs (now memory) (now calls) (now answers) n ⌝ }
+    ensures { λ r.
+        ⌜ leftOf (now (memory .exit)) (now (answers .exit)) r
+        ≡ runs.leftBy (now (answers .entry)) (runs.ranFrom n (spec.plainStart (now (memory .entry))) (now (calls .entry)) 0) ⌝ }
+{
+    let mut s = zero_state();
+    let mut i: usize = 0;
+    while i < n {
+        if !trace::is_call_at(calls, i) {
+            return Ran {
+                state: s,
+                made: i,
+                refusal: 0,
+            };
+        }
+        let c = trace::call_at(calls, i);
+        let o = step(table, memory, s, c);
+        let a = o.answer;
+        answers[i] = trace::code(a);
+        let t = o.state;
+        s = t;
+        i += 1;
+    }
+    Ran {
+        state: s,
+        made: i,
+        refusal: 0,
+    }
+}
+
+// The smaller of two numbers.
+fn smaller(a: usize, b: usize) -> usize
+    ensures { λ r. ⌜ r ≡ min a b ⌝ }
+{
+    if a < b { a } else { b }
+}
+
+// A run of the plain machine from the start: as many calls, of five numbers each, as both lists hold. It stops at five numbers that are
+// no call. A memory whose length does not fit is refused, and nothing changes.
+pub fn run(memory: &mut [u8], calls: &[u32], answers: &mut [u64]) -> Ran
+    ensures { λ r.
+        ⌜ leftOf (now (memory .exit)) (now (answers .exit)) r
+        ≡ runs.plainRun (now (memory .entry)) (now (calls .entry)) (now (answers .entry)) ⌝ }
+{
+    if memory.len() % 32 != 0 {
+        return Ran {
+            state: zero_state(),
+            made: 0,
+            refusal: 1,
+        };
+    }
+    if 16777216 < memory.len() {
+        return Ran {
+            state: zero_state(),
+            made: 0,
+            refusal: 1,
+        };
+    }
+    let n = smaller(calls.len() / 5, answers.len());
+    let table = rights::table();
+    run_calls(&table, memory, calls, answers, n)
 }

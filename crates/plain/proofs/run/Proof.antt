@@ -1,0 +1,84 @@
+use Rattle.plain.specs.Plain.{Plain}
+use Rattle.plain.proofs.Runs.{refused-odd, refused-long, run-by, calls-fit, answers-fit}
+use mathlib.Core.Path.{sym, _∙_, ap}
+use denote.Ref.{now}
+use lib.ListN.{length}
+use borrow.Author.Needs.{needs}
+use Rattle.plain.proofs.run.Statement.{statement}
+use Rattle.plain.proofs.run.Tie as tie
+use Rattle.plain.proofs.run.Reads as reads
+use Rattle.plain.proofs.run.Lts as lts
+use Rattle.plain.proofs.run_calls.Reads as run-calls-reads
+use Rattle.plain.proofs.smaller.Reads as smaller-reads
+use Rattle.plain.proofs.zero_state.Reads as zero-state-reads
+use Rattle.rights.proofs.table.Reads as table-reads
+
+-- src/lib.rt:309:20
+zero-state-requires : tie.Need-zero-state-requires
+zero-state-requires c κs = search needs
+
+-- src/lib.rt:308:9
+returns : tie.Need-returns
+returns c = let a = c .before .before .before .before .before .args in
+    let m = now (a .memory) in
+    ap (λ (p : Plain). record { plain = p; answers = now (a .answers); made = 0; refusal = 1 }) (c .zero-state .ensures m)
+    ∙ refused-odd m (now (a .calls)) (now (a .answers)) (c .before .if1 .taken)
+
+-- src/lib.rt:316:20
+zero-state-requires-2 : tie.Need-zero-state-requires-2
+zero-state-requires-2 c κs = search needs
+
+-- src/lib.rt:315:9
+returns-2 : tie.Need-returns-2
+returns-2 c = let a = c .before .before .before .before .before .before .args in
+    let m = now (a .memory) in
+    ap (λ (p : Plain). record { plain = p; answers = now (a .answers); made = 0; refusal = 1 }) (c .zero-state2 .ensures m)
+    ∙ refused-long m (now (a .calls)) (now (a .answers)) (c .before .before .if1 .left) (c .before .if2 .taken)
+
+-- src/lib.rt:321:9
+smaller-requires : tie.Need-smaller-requires
+smaller-requires c κs = search needs
+
+-- src/lib.rt:322:17
+table-requires : tie.Need-table-requires
+table-requires c κs = search needs
+
+-- src/lib.rt:323:5
+run-calls-requires : tie.Need-run-calls-requires
+run-calls-requires c κs = let a = c .before .before .before .before .before .before .before .before .before .before .args in
+    let n = c .before .before .before .before .smaller .ensures in
+    (c .before .before .before .table .ensures, record {
+      calls-hold = rw n (calls-fit (length (now (a .calls))) (length (now (a .answers))));
+      answers-hold = rw n (answers-fit (length (now (a .calls))) (length (now (a .answers))));
+      whole = c .before .before .before .before .before .before .if1 .left;
+      short = c .before .before .before .before .before .if2 .left;
+    })
+
+-- src/lib.rt:302:1
+same-length : tie.Need-same-length
+same-length c = search needs
+
+-- src/lib.rt:302:1
+same-length-2 : tie.Need-same-length-2
+same-length-2 c = search needs
+
+-- src/lib.rt:302:1
+returns-3 : tie.Need-returns-3
+returns-3 c = let a = c .before .before .before .before .before .before .before .before .before .before .before .before .before .before .before .args in
+    c .before .before .before .before .run-calls .ensures
+    ∙ sym (run-by (now (a .memory)) (now (a .calls)) (now (a .answers)) (c .before .before .before .before .before .before .before .before .before .smaller .result) (c .before .before .before .before .before .before .before .before .before .before .before .if1 .left) (c .before .before .before .before .before .before .before .before .before .before .if2 .left) (c .before .before .before .before .before .before .before .before .before .smaller .ensures))
+
+pub run-spec : {M : Type 1} → statement M
+run-spec =
+    tie.close
+    (tie.spec
+    zero-state-requires
+    returns
+    zero-state-requires-2
+    returns-2
+    smaller-requires
+    table-requires
+    run-calls-requires
+    same-length
+    same-length-2
+    returns-3)
