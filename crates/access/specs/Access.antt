@@ -151,23 +151,23 @@ load m signed a = let r = reach m a false in loadAt (r .machine) signed a (r .ch
 -- ---- stores
 
 -- a served store answers 0
-abbrev pub served : Machine → Stepped
-served m = record { machine = m; answer = answer.Value 0 }
+abbrev pub answersZero : Machine → Stepped
+answersZero m = record { machine = m; answer = answer.Value 0 }
 
 -- "A hit serves ... stores with no bounds test; a store marks its half."
 unfoldable pub storeHit : Machine → Access → ℕ → ℕ → Stepped
-storeHit m a v i = served (more (withCache m (hitStore (m .side .cache) i (cleared a) (a .width) v)) 0 0 1 0 0)
+storeHit m a v i = answersZero (more (withCache m (hitStore (m .side .cache) i (cleared a) (a .width) v)) 0 0 1 0 0)
 
 -- "A store that misses is buffered ...; outside memory its bytes are dropped without a fault."
 unfoldable pub storeBuffered : Machine → Access → ℕ → Place → Stepped
 storeBuffered m a v p =
-    served (cond (inside (length (memoryOf m)) (p .address)) (withBacking m (buffered (m .side .backing) (p .address) (a .width) v)) m)
+    answersZero (cond (inside (length (memoryOf m)) (p .address)) (withBacking m (buffered (m .side .backing) (p .address) (a .width) v)) m)
 
 -- "Any other missing store drains the buffer, then writes."
 unfoldable pub storeDirect : Machine → Access → ℕ → Place → Stepped
 storeDirect m a v p =
     let b = drained (m .side .backing) in
-    served (withBacking m (record { memory = stored (a .width) (b .memory) (p .address .0) v; buffer = b .buffer }))
+    answersZero (withBacking m (record { memory = stored (a .width) (b .memory) (p .address .0) v; buffer = b .buffer }))
 
 unfoldable pub storeMiss : Machine → Access → ℕ → Place → Stepped
 storeMiss m a v p =

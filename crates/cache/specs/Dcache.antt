@@ -4,9 +4,9 @@ use Prim.Native.Nat.{ℕ, _+_, _*_, _/_, _%_}
 use mathlib.Core.Bool.{Bool, true, false, cond, _&&_}
 use mathlib.Core.List.{List, _++_}
 use lib.Dec.{eqb, ltb}
-use lib.ListN.{getD, set, take, drop, replicate}
+use lib.ListN.{getD, set, take, drop}
 use Rattle.values.specs.Tests.{firstFrom, number}
-use Rattle.values.specs.Empty.{emptyLine}
+use Rattle.values.specs.Empty.{emptyLine, noLines}
 use Rattle.values.specs.Addresses.{setOf, tagOf, offsetOf, physicalLine}
 use Rattle.values.specs.declared.VirtualAddress.{VirtualAddress}
 use Rattle.values.specs.declared.PhysicalAddress.{PhysicalAddress}
@@ -106,7 +106,7 @@ lineRead c i va pa memory =
     }
 
 -- "the line at the set's pointer gives way, its dirty halves go to the buffer, low half first, the pointer steps, the line is read";
--- "A fill, once the old line has given way, ... first drains it if a masked byte lies in what is read (the whole line ..)"
+-- "A fill, once the old line has given way, ... first drains it if a masked byte lies in what is read (the whole line, or the access)"
 unfoldable pub filled : Side → VirtualAddress → PhysicalAddress → Sent
 filled s va pa =
     let i = victim (s .cache) va in
@@ -129,7 +129,7 @@ cleanedAt s (At i) =
       halves = dirtyHalves l;
     }
 
--- "(1,10) cleans it [the line of the virtual address written]"; "Lines are matched by virtual tag, without translation."
+-- "(1,10) cleans it", the line of the virtual address written; "Lines are matched by virtual tag, without translation."
 unfoldable pub cleaned : Side → VirtualAddress → Sent
 cleaned s va = cleanedAt s (find (s .cache .lines) va)
 
@@ -144,4 +144,4 @@ lineFlushed c va = flushedAt c (find (c .lines) va)
 
 -- "(0,7) and (0,6) flush the Dcache"
 unfoldable pub allFlushed : Dcache → Dcache
-allFlushed c = record { lines = replicate 512 emptyLine; pointers = c .pointers; store = c .store }
+allFlushed c = record { lines = noLines; pointers = c .pointers; store = c .store }

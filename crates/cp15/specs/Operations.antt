@@ -8,7 +8,7 @@ use Rattle.tlb.specs.Tlb.{flushed, dropped}
 use Rattle.buffer.specs.Buffer.{drained}
 use Rattle.cache.specs.Dcache.{cleaned, lineFlushed, allFlushed}
 use Rattle.sound.specs.Machine.{Machine}
-use Rattle.access.specs.Access.{Stepped, withRegisters, withSide, withCache, withBacking, withEntries, more, served}
+use Rattle.access.specs.Access.{Stepped, withRegisters, withSide, withCache, withBacking, withEntries, more, answersZero}
 use Rattle.access.specs.Access as access
 use Rattle.values.specs.declared.Answer.the-variants as answer
 use Rattle.registers.specs.Refusals.{isPair}
@@ -60,4 +60,4 @@ unfoldable pub read : Machine → Transfer → Stepped
 read m t = record { machine = m; answer = answer.Value (readOf (m .cp15 .registers) (t .register)) }
 
 unfoldable pub write : Machine → Transfer → ℕ → Stepped
-write m t v = served (withRegisters (operated m t (record { 0 = v })) (writtenOf (m .cp15 .registers) (t .register) v))
+write m t v = answersZero (withRegisters (operated m t (record { 0 = v })) (writtenOf (m .cp15 .registers) (t .register) v))

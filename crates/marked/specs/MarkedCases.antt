@@ -1,5 +1,5 @@
--- "Marked cases": M1 to M12, each as calls after a start, with what they answer. "Memory 40000 bytes, table base 4000, domain register 5 unless
--- stated." All numbers are hexadecimal there, and here where they begin with 0x.
+-- "Marked cases (hexadecimal)": M1 to M12, as calls with what they answer. "Memory 40000 bytes, table base 4000, domain register 5 unless
+-- stated": `runWith` begins with these registers; M1 to M3 and M11, whose answers do not depend on them, with those of a fresh start.
 use Prim.Native.Nat.{ℕ, _-_, _/_, _%_}
 use mathlib.Core.Bool.{Bool, true, false}
 use mathlib.Core.List.{List, [], _∷_, _++_}

@@ -1,9 +1,9 @@
 -- A run of the plain machine over a lent list of calls, five numbers each, with the answers as numbers.
-use Prim.Native.Nat.{ℕ, zero, suc, _+_, _*_, _/_, _%_, min}
-use mathlib.Core.Bool.{Bool, true, false, cond, not, _&&_}
+use Prim.Native.Nat.{ℕ, zero, suc, _+_, _/_, min}
+use mathlib.Core.Bool.{cond}
 use mathlib.Core.List.{List, [], _∷_, _++_}
-use lib.Dec.{eqb, leb}
 use lib.ListN.{length, drop}
+use Rattle.registers.specs.Refusals.{lengthFits}
 use Rattle.trace.specs.Calls.{callAt, isCallAt}
 use Rattle.trace.specs.Codes.{codeOf}
 use Rattle.plain.specs.Plain.{Plain, PlainStepped, plainly, plainStart}
@@ -24,11 +24,7 @@ ranFrom (suc n) p list i =
     (before (codeOf (plainly p (callAt list i) .answer)) (ranFrom n (plainly p (callAt list i) .plain) list (i + 1)))
     (record { plain = p; codes = [] })
 
--- refusal 1: "The memory length is not a multiple of 32 or exceeds 16,777,216."
-abbrev pub lengthFits : ℕ → Bool
-lengthFits n = eqb (n % 32) 0 && leb n 16777216
-
--- what a run leaves: the machine, the list of answers, the number of calls made, and refusal 1 or 0
+-- what a run leaves: the machine, the list of answers, the number of calls made, and the start's refusal 1 or 0
 pub record Left : Type 0 where
   pub plain : Plain
   pub answers : List ℕ

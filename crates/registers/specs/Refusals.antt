@@ -1,5 +1,5 @@
--- Refusals 5 to 12, which the count of calls and the call alone decide: those that the plain machine has too. 0 is none.
-use Prim.Native.Nat.{ℕ}
+-- Refusals that both machines share: 1, of the start, and 5 to 12, which the count of calls and the call alone decide. 0 is none.
+use Prim.Native.Nat.{ℕ, _%_}
 use mathlib.Core.Bool.{Bool, true, false, cond, not, _&&_, _||_}
 use lib.Dec.{eqb, ltb, leb}
 use Rattle.values.specs.Tests.{bit}
@@ -9,18 +9,22 @@ use Rattle.values.specs.declared.Call.{Call}
 use Rattle.values.specs.declared.Call.the-variants.{Load, SignedLoad, Store, Read, Write}
 use Rattle.translation.specs.Refusals.{loadRefusal, storeRefusal}
 
+-- "1. The memory length is not a multiple of 32 or exceeds 16,777,216.": a length that fits
+abbrev pub lengthFits : ℕ → Bool
+lengthFits n = eqb (n % 32) 0 && leb n 16777216
+
 -- a transfer's opcode 2 and CRm are this pair
 abbrev pub isPair : Transfer → ℕ → ℕ → Bool
 isPair t opcode crm = eqb (t .opcode) opcode && eqb (t .crm) crm
 
 -- "(1,10) ...; (4,10)", of register 7 alone
-abbrev pub linePair : Transfer → Bool
-linePair t = eqb (t .register) 7 && (isPair t 1 10 || isPair t 4 10)
+abbrev pub sevenPair : Transfer → Bool
+sevenPair t = eqb (t .register) 7 && (isPair t 1 10 || isPair t 4 10)
 
 -- "Register 7, as (opcode 2, CRm): (0,7) and (0,6) ...; (0,5) ...; (1,6) ...; (1,10) ...; (4,10)". "Register 8: (0,7) and (0,6) ...;
 -- (0,5) ...; (1,6)"
 abbrev pub listedPair : Transfer → Bool
-listedPair t = isPair t 0 7 || (isPair t 0 6 || (isPair t 0 5 || (isPair t 1 6 || linePair t)))
+listedPair t = isPair t 0 7 || (isPair t 0 6 || (isPair t 0 5 || (isPair t 1 6 || sevenPair t)))
 
 -- "8. A CP15 call is made in user mode." "9. The register cannot be read (other than 0 to 6)"
 abbrev pub readRefusal : Transfer → ℕ

@@ -111,12 +111,12 @@ fn is_listed_pair(t: Transfer) -> bool
     if is_pair(t, 1, 6) {
         return true;
     }
-    is_line_pair(t)
+    is_seven_pair(t)
 }
 
 // Whether the pair is one of register 7 alone.
-fn is_line_pair(t: Transfer) -> bool
-    ensures { λ r. ⌜ r ≡ refused.linePair t ⌝ }
+fn is_seven_pair(t: Transfer) -> bool
+    ensures { λ r. ⌜ r ≡ refused.sevenPair t ⌝ }
 {
     if t.register == 7 {
         if is_pair(t, 1, 10) {

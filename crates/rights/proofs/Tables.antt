@@ -1,15 +1,16 @@
 -- A table that a function gives, at an index.
-use Prim.Native.Nat.{ℕ, zero, suc, _+_, _*_, _/_, _%_, _<_}
+use Prim.Native.Nat.{ℕ, zero, suc, _+_, _*_, _/_, _%_, _^_, _<_}
 use native.Mathlib.Omega.{arith}
 use native.Mathlib.Nat.{add-zero, zero-add, add-suc, suc-add, le-of-suc-le-suc, not-suc-le-zero}
 use mathlib.Core.Bool.{Bool}
 use mathlib.Core.Path.{_≡_, refl, sym, _∙_, ap}
 use mathlib.Core.List.{List}
 use lib.Dec.{eqb}
+use borrow.Author.Tests.{eqb-true, eqb-false}
 use lib.ListN.{getD}
 use Rattle.values.specs.Tests.{bit, number}
-use Rattle.values.proofs.Cases.{number-bit}
-use Rattle.rights.specs.Rights.{tabulated, rights, rightsAt, rightsTable}
+use Rattle.values.proofs.Cases.{case, number-bit, number-low}
+use Rattle.rights.specs.Rights.{tabulated, rights, rightsAt, rightsTable, indexOf}
 
 from-at : (f : ℕ → ℕ) (i n k : ℕ) → k < n → getD (tabulated f i n) k 0 ≡ f (i + k)
 from-at f i zero k h = absurd (not-suc-le-zero h)
@@ -20,20 +21,44 @@ from-at f i (suc n) (suc k) h = from-at f (suc i) n k (le-of-suc-le-suc h) ∙ a
 pub entry : (f : ℕ → ℕ) (n k : ℕ) → k < n → getD (tabulated f 0 n) k 0 ≡ f k
 entry f n k h = from-at f 0 n k h ∙ ap f (zero-add k)
 
--- the table's entry at the index of an access is the rule's value for it
-pub right-at : (value ap′ control p w : ℕ) (privileged store : Bool) → value < 4 → ap′ < 4 → p ≡ number privileged → p < 2
-    → w ≡ number store → w < 2
-    → getD rightsTable (value * 64 + ap′ * 16 + control / 256 % 2 * 8 + control / 512 % 2 * 4 + p * 2 + w) 0
-    ≡ rights value ap′ (bit control 8) (bit control 9) privileged store
+-- "index: domain value × 64 + AP × 16 + S × 8 + R × 4 + privileged × 2 + store": the entry there is the rule's value
+pub right-at : (value ap′ : ℕ) (s r privileged store : Bool) → value < 4 → ap′ < 4
+    → getD rightsTable (indexOf value ap′ s r privileged store) 0 ≡ rights value ap′ s r privileged store
 unfolding rightsTable
-right-at value ap′ control p w privileged store hv ha ep hp ew hw =
-    let i = value * 64 + ap′ * 16 + control / 256 % 2 * 8 + control / 512 % 2 * 4 + p * 2 + w in
+right-at value ap′ s r privileged store hv ha =
+    let i = indexOf value ap′ s r privileged store in
+    let hs = number-low s in
+    let hr = number-low r in
+    let hp = number-low privileged in
+    let hw = number-low store in
     let e0 : i / 64 ≡ value = omega arith in
     let e1 : i / 16 % 4 ≡ ap′ = omega arith in
-    let e2 : i / 8 % 2 ≡ control / 256 % 2 = omega arith in
-    let e3 : i / 4 % 2 ≡ control / 512 % 2 = omega arith in
-    let e4 : i / 2 % 2 ≡ p = omega arith in
-    let e5 : i / 1 % 2 ≡ w = omega arith in
-    let f4 : eqb (i / 2 % 2) 1 ≡ privileged = ap (λ (k : ℕ). eqb k 1) (e4 ∙ ep) ∙ number-bit privileged in
-    let f5 : eqb (i / 1 % 2) 1 ≡ store = ap (λ (k : ℕ). eqb k 1) (e5 ∙ ew) ∙ number-bit store in
-    entry rightsAt 256 i (omega arith) ∙ rw (e0, e1, e2, e3, f4, f5)
+    let e2 : i / 8 % 2 ≡ number s = omega arith in
+    let e3 : i / 4 % 2 ≡ number r = omega arith in
+    let e4 : i / 2 % 2 ≡ number privileged = omega arith in
+    let e5 : i / 1 % 2 ≡ number store = omega arith in
+    let f2 : eqb (i / 8 % 2) 1 ≡ s = ap (λ (k : ℕ). eqb k 1) e2 ∙ number-bit s in
+    let f3 : eqb (i / 4 % 2) 1 ≡ r = ap (λ (k : ℕ). eqb k 1) e3 ∙ number-bit r in
+    let f4 : eqb (i / 2 % 2) 1 ≡ privileged = ap (λ (k : ℕ). eqb k 1) e4 ∙ number-bit privileged in
+    let f5 : eqb (i / 1 % 2) 1 ≡ store = ap (λ (k : ℕ). eqb k 1) e5 ∙ number-bit store in
+    entry rightsAt 256 i (omega arith) ∙ rw (e0, e1, f2, f3, f4, f5)
+
+-- a bit's number is the bit
+pub bit-number : (n k : ℕ) → number (bit n k) ≡ n / 2 ^ k % 2
+bit-number n k =
+    case (bit n k)
+    (λ t. let e : n / 2 ^ k % 2 ≡ 1 = eqb-true (n / 2 ^ k % 2) 1 t in rw (t, e))
+    (λ t. let e : n / 2 ^ k % 2 ≡ 0 = below (n / 2 ^ k) (eqb-false (n / 2 ^ k % 2) 1 t) in rw (t, e))
+  where
+    below : (m : ℕ) → (m % 2 ≡ 1 → ⊥) → m % 2 ≡ 0
+    below m h = omega arith
+
+-- the same at the index as the code adds it up
+pub right-by : (value ap′ control p w : ℕ) (privileged store : Bool) → value < 4 → ap′ < 4 → p ≡ number privileged → w ≡ number store
+    → getD rightsTable (value * 64 + ap′ * 16 + control / 256 % 2 * 8 + control / 512 % 2 * 4 + p * 2 + w) 0
+    ≡ rights value ap′ (bit control 8) (bit control 9) privileged store
+right-by value ap′ control p w privileged store hv ha ep ew =
+    let s : number (bit control 8) ≡ control / 256 % 2 = bit-number control 8 in
+    let r : number (bit control 9) ≡ control / 512 % 2 = bit-number control 9 in
+    let e : value * 64 + ap′ * 16 + control / 256 % 2 * 8 + control / 512 % 2 * 4 + p * 2 + w ≡ indexOf value ap′ (bit control 8) (bit control 9) privileged store = omega arith in
+    ap (λ (k : ℕ). getD rightsTable k 0) e ∙ right-at value ap′ (bit control 8) (bit control 9) privileged store hv ha

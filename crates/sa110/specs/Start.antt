@@ -16,7 +16,7 @@ pub record Started : Type 0 where
   -- the refusal's number, 0 where the start is served
   pub refusal : ℕ
 
--- "A start call makes a fresh state". A refused one "returns its number with ... a state all zeros, and changes nothing".
+-- "A start call makes a fresh state". "Each returns its number with value 0 (the start a state all zeros) and changes nothing."
 unfoldable pub started : List ℕ → List ℕ → Started
 started memory store =
     let n = startRefusal memory store in

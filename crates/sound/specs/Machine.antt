@@ -2,7 +2,7 @@
 use Prim.Native.Nat.{ℕ}
 use mathlib.Core.List.{List}
 use lib.ListN.{length, replicate}
-use Rattle.values.specs.Empty.{emptyEntry, emptyLine, zeroCp15, zeroCounts}
+use Rattle.values.specs.Empty.{noEntries, noLines, zeroCp15, zeroCounts}
 use Rattle.values.specs.declared.Cp15.{Cp15}
 use Rattle.values.specs.declared.Counts.{Counts}
 use Rattle.values.specs.declared.Entry.{Entry}
@@ -31,9 +31,9 @@ unfoldable pub fresh : ℕ → List ℕ → List ℕ → Machine
 fresh size memory store =
     record {
       cp15 = zeroCp15;
-      entries = replicate 32 emptyEntry;
+      entries = noEntries;
       side = record {
-        cache = record { lines = replicate 512 emptyLine; pointers = replicate 16 0; store = store };
+        cache = record { lines = noLines; pointers = replicate 16 0; store = store };
         backing = record { memory = memory; buffer = emptyBuffer };
       };
       counts = zeroCounts;

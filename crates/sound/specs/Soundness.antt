@@ -1,4 +1,4 @@
--- Refusal 3, "The state is unsound": each clause as a test that a sound state passes, in document 01's order.
+-- Refusal 3, "The state is unsound": each clause as a test that a sound state passes.
 use Prim.Native.Nat.{ℕ, zero, suc, _+_, _*_, _/_, _%_}
 use mathlib.Core.Bool.{Bool, true, false, cond, not, _&&_, _||_}
 use mathlib.Core.List.{List, [], _∷_}

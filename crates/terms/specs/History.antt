@@ -1,5 +1,5 @@
 -- What the rules remember of a run. "cleans, drains and flushes are served writes; stores (dropped ones left out), walks and lines reached
--- are the plain machine's."
+-- are the plain machine's." Whether a call is served is the plain machine's too: refusals 1 to 4 do not occur in a run after a served start.
 use Prim.Native.Nat.{ℕ, _/_}
 use mathlib.Core.Bool.{Bool, true, false, cond, not, _&&_, _||_}
 use mathlib.Core.List.{List, [], _∷_}
@@ -16,7 +16,7 @@ use Rattle.translation.specs.Faults.{inside}
 use Rattle.translation.specs.declared.Place.{Place}
 use Rattle.translation.specs.declared.Checked.{Checked}
 use Rattle.translation.specs.declared.Checked.the-variants.{Passed, Denied}
-use Rattle.cp15.specs.Operations.{flushesDcache, flushesLine, cleansLine, drains, flushesTlb}
+use Rattle.cp15.specs.Operations.{flushesDcache, cleansLine, drains, flushesTlb}
 use Rattle.plain.specs.Plain.{Plain, plainReach, plainRefusal, plainly}
 
 -- How far a line or a word has come since its last store: never stored to, stored, then cleaned, then drained, then the TLB flushed.

@@ -15,7 +15,7 @@ use Rattle.plain.specs.Plain.{plainStart, plainAnswers, plainFinal}
 use Rattle.terms.specs.History.{noHistory, historyAfter}
 use Rattle.terms.specs.Rules.{Keeps, Settled}
 
--- the numbers of a call are 32 bits each, as the library's types have them
+-- "32 bits each": a call's address, and the value that it stores or writes, as the library's types have them
 abbrev pub Is32 : ℕ → Type 0
 Is32 n = n < 4294967296
 

@@ -1,1 +1,1 @@
-// Terms 1 to 3 and the marked cases stand in specs/ and proofs/.
+// Terms 1 to 3 stand in specs/ and proofs/.

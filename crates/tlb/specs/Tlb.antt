@@ -3,9 +3,9 @@ use Prim.Native.Nat.{ℕ, _+_, _*_, _/_, _%_, _^_}
 use mathlib.Core.Bool.{Bool, true, false, cond, _&&_}
 use mathlib.Core.List.{List, map}
 use lib.Dec.{eqb}
-use lib.ListN.{getD, set, replicate}
+use lib.ListN.{set}
 use Rattle.values.specs.Tests.{firstFrom}
-use Rattle.values.specs.Empty.{emptyEntry}
+use Rattle.values.specs.Empty.{emptyEntry, noEntries}
 use Rattle.values.specs.declared.VirtualAddress.{VirtualAddress}
 use Rattle.values.specs.declared.PhysicalAddress.{PhysicalAddress}
 use Rattle.values.specs.declared.Entry.{Entry}
@@ -47,7 +47,7 @@ stepped pointer = (pointer + 1) % 32
 
 -- "(0,7) and (0,6) flush the TLB"; "emptied places become all zeros, pointers ... stay"
 unfoldable pub flushed : List Entry
-flushed = replicate 32 emptyEntry
+flushed = noEntries
 
 -- "(1,6) drops every entry covering the address"
 abbrev pub keptOf : VirtualAddress → Entry → Entry

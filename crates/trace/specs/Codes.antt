@@ -1,18 +1,34 @@
--- An answer as one number: kind × 2^32 + value. Kind 0 is served, with the value, a signed one as 32 bits; 1 a fault, with FSR; 2 refused, with the
--- refusal's number.
-use Prim.Native.Nat.{ℕ, _+_, _-_}
+-- Each answer in document 01's numbers, and as one number of 64 bits.
+use Prim.Native.Nat.{ℕ, _+_, _*_, _-_}
 use lib.IntN.{ℤ, pos, negsuc}
-use Rattle.values.specs.Answers.{fsrOf}
+use Rattle.values.specs.Answers.{statusOf}
 use Rattle.values.specs.declared.Answer.{Answer}
 use Rattle.values.specs.declared.Answer.the-variants as answer
+
+-- An answer's kind (0 served, 1 fault, 2 refused), its value, the fault's status, domain and address, the refusal's number.
+pub record Numbers : Type 0 where
+  pub kind : ℕ
+  pub value : ℤ
+  pub status : ℕ
+  pub domain : ℕ
+  pub address : ℕ
+  pub refusal : ℕ
+
+-- "A fault is not a refusal: it is an answer." A refusal is "its number with value 0".
+abbrev pub numbersOf : Answer → Numbers
+numbersOf (answer.Value v) = record { kind = 0; value = pos v; status = 0; domain = 0; address = 0; refusal = 0 }
+numbersOf (answer.Signed z) = record { kind = 0; value = z; status = 0; domain = 0; address = 0; refusal = 0 }
+numbersOf (answer.Fault f) =
+    record { kind = 1; value = pos 0; status = statusOf (f .status); domain = f .domain; address = f .address .0; refusal = 0 }
+numbersOf (answer.Refused n) = record { kind = 2; value = pos 0; status = 0; domain = 0; address = 0; refusal = n }
 
 -- a signed number as 32 bits: −(n + 1) is 2^32 − 1 − n
 abbrev pub unsignedOf : ℤ → ℕ
 unsignedOf (pos n) = n
 unsignedOf (negsuc n) = 4294967295 - n
 
+-- kind × 2^32 + value: kind 0 is served, with the value, a signed one as 32 bits; 1 a fault, with FSR; 2 refused, with the refusal's number
 abbrev pub codeOf : Answer → ℕ
-codeOf (answer.Value v) = v
-codeOf (answer.Signed z) = unsignedOf z
-codeOf (answer.Fault f) = 4294967296 + fsrOf f
-codeOf (answer.Refused n) = 8589934592 + n
+codeOf a =
+    let n = numbersOf a in
+    n .kind * 4294967296 + (unsignedOf (n .value) + (n .domain * 16 + n .status) + n .refusal)

@@ -1,4 +1,5 @@
--- Tests that the definitions share: a bit of a number, a test of every and of some element of a list, and the first match of a search.
+-- What the definitions share: a bit of a number and its number, a test of every and of some element of a list, the first match of a search,
+-- and a sum over a list.
 use Prim.Native.Nat.{ℕ, _+_, _/_, _%_, _^_}
 use mathlib.Core.Bool.{Bool, true, false, cond, _&&_, _||_}
 use mathlib.Core.List.{List, [], _∷_}

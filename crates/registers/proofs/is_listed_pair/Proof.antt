@@ -6,7 +6,7 @@ use Rattle.registers.proofs.is_listed_pair.Statement.{statement}
 use Rattle.registers.proofs.is_listed_pair.Tie as tie
 use Rattle.registers.proofs.is_listed_pair.Reads as reads
 use Rattle.registers.proofs.is_listed_pair.Lts as lts
-use Rattle.registers.proofs.is_line_pair.Reads as is-line-pair-reads
+use Rattle.registers.proofs.is_seven_pair.Reads as is-seven-pair-reads
 use Rattle.registers.proofs.is_pair.Reads as is-pair-reads
 
 -- src/lib.rt:92:8
@@ -54,8 +54,8 @@ returns-4 c = let t = c .before .before .before .before .before .before .before 
     rw (p, q, s, u)
 
 -- src/lib.rt:104:5
-is-line-pair-requires : tie.Need-is-line-pair-requires
-is-line-pair-requires c κs = search needs
+is-seven-pair-requires : tie.Need-is-seven-pair-requires
+is-seven-pair-requires c κs = search needs
 
 -- src/lib.rt:89:1
 returns-5 : tie.Need-returns-5
@@ -64,7 +64,7 @@ returns-5 c = let t = c .before .before .before .before .before .before .before 
     let q : isPair t 0 6 ≡ false = sym (c .before .before .before .before .before .before .is-pair2 .ensures) ∙ c .before .before .before .before .before .if2 .left in
     let s : isPair t 0 5 ≡ false = sym (c .before .before .before .before .is-pair3 .ensures) ∙ c .before .before .before .if3 .left in
     let u : isPair t 1 6 ≡ false = sym (c .before .before .is-pair4 .ensures) ∙ c .before .if4 .left in
-    rw (p, q, s, u) (c .is-line-pair .ensures)
+    rw (p, q, s, u) (c .is-seven-pair .ensures)
 
 pub is-listed-pair-spec : {M : Type 1} → statement M
 is-listed-pair-spec =
@@ -78,5 +78,5 @@ is-listed-pair-spec =
     returns-3
     is-pair-requires-4
     returns-4
-    is-line-pair-requires
+    is-seven-pair-requires
     returns-5)

@@ -1,3 +1,7 @@
+use Rattle.rights.proofs.Tables.{right-by}
+use Rattle.values.specs.Tests.{bit}
+use Rattle.rights.proofs.Tables.{bit-number}
+use mathlib.Core.Path.{ap}
 use Rattle.rights.proofs.Tables.{right-at}
 use borrow.Author.Needs.{needs}
 use Rattle.rights.proofs.right.Statement.{statement}
@@ -68,7 +72,7 @@ returns c = let a = c .before .before .before .args in
     let p = c .before .before .bit-number in
     let w = c .before .bit-number2 in
     rw (c .before .before .before .pre .0)
-    (right-at (a .value) (a .ap) (a .control) (p .result) (w .result) (a .privileged) (a .store) (search needs) (search needs) (p .ensures .0) (p .ensures .1) (w .ensures .0) (w .ensures .1))
+    (right-by (a .value) (a .ap) (a .control) (p .result) (w .result) (a .privileged) (a .store) (search needs) (search needs) (p .ensures .0) (w .ensures .0))
 
 pub right-spec : {M : Type 1} → statement M
 right-spec =

@@ -1,3 +1,4 @@
+use mathlib.Core.Path.{_≡_}
 use lib.IntN.{ℤ}
 use mir.Syntax.{w32}
 use mir.Val.{SFits}
@@ -76,13 +77,14 @@ add-result-3 c = search needs
 
 -- src/lib.rt:86:1
 returns : tie.Need-returns
-returns c = search needs
+returns c = rw (c .before .a .given .1) (omega arith)
 
 -- src/lib.rt:86:1
 returns-2 : tie.Need-returns-2
 returns-2 c = let z : ℤ = c .before .before .a2 .given .0 .0 in
     let f : SFits w32 z = search needs in
-    rw (c .before .before .a2 .given .1) (c .unsigned .ensures ∙ ap unsignedOf (toZ-ofZ f))
+    let e : c .unsigned .result ≡ unsignedOf z = c .unsigned .ensures ∙ ap unsignedOf (toZ-ofZ f) in
+    rw (c .before .before .a2 .given .1) (omega arith)
 
 -- src/lib.rt:86:1
 returns-3 : tie.Need-returns-3
@@ -90,7 +92,7 @@ returns-3 c = rw (c .before .before .before .a3 .given .1) (omega (arith, c .sta
 
 -- src/lib.rt:86:1
 returns-4 : tie.Need-returns-4
-returns-4 c = rw (c .before .a4 .given .1)
+returns-4 c = rw (c .before .a4 .given .1) (omega arith)
 
 pub code-spec : {M : Type 1} → statement M
 code-spec =

@@ -3,10 +3,10 @@ use mathlib.Core.Path.{_≡_, sym, _∙_}
 use mathlib.Core.Bool.{true, false}
 use borrow.Author.Tests.{eq-eqb, ne-eqb}
 use borrow.Author.Needs.{needs}
-use Rattle.registers.proofs.is_line_pair.Statement.{statement}
-use Rattle.registers.proofs.is_line_pair.Tie as tie
-use Rattle.registers.proofs.is_line_pair.Reads as reads
-use Rattle.registers.proofs.is_line_pair.Lts as lts
+use Rattle.registers.proofs.is_seven_pair.Statement.{statement}
+use Rattle.registers.proofs.is_seven_pair.Tie as tie
+use Rattle.registers.proofs.is_seven_pair.Reads as reads
+use Rattle.registers.proofs.is_seven_pair.Lts as lts
 use Rattle.registers.proofs.is_pair.Reads as is-pair-reads
 
 -- src/lib.rt:112:12
@@ -33,6 +33,6 @@ returns-2 c = let t = c .before .before .before .before .before .args .t in
 returns-3 : tie.Need-returns-3
 returns-3 c = rw (ne-eqb _ _ (c .if1 .left))
 
-pub is-line-pair-spec : {M : Type 1} → statement M
-is-line-pair-spec =
+pub is-seven-pair-spec : {M : Type 1} → statement M
+is-seven-pair-spec =
     tie.close (tie.spec is-pair-requires returns is-pair-requires-2 returns-2 returns-3)

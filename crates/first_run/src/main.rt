@@ -1,0 +1,166 @@
+// A first run: the plain machine on 64 KB of memory with page tables in it, and what each of a short list of calls answers.
+
+ghost use mathlib.Core.Path.{_≡_};
+ghost use Prim.Native.Nat.{_<_};
+ghost use lib.ListN.{length};
+
+// How many calls there are.
+const COUNT: usize = 16;
+
+// The calls, five numbers each: the call (0 load, 1 signed load, 2 store, 3 CP15 read, 4 CP15 write), privileged, the width or the register,
+// the address, the value.
+const CALLS: [u32; 80] = [
+    3, 1, 1, 0, 0, // read register 1, control
+    4, 1, 2, 0, 16384, // write register 2, table base
+    4, 1, 3, 0, 5, // write register 3, domains
+    4, 1, 1, 0, 15, // write register 1: MMU, alignment, Dcache, write buffer on
+    2, 1, 4, 1048592, 3405648436, // store a word through a section
+    0, 1, 4, 1048592, 0, // load it
+    1, 1, 1, 1048595, 0, // signed load of its top byte
+    2, 1, 2, 2098304, 48879, // store a halfword through a small page
+    0, 1, 2, 1086592, 0, // load it at its other address
+    0, 0, 4, 2098304, 0, // user load of that page
+    3, 1, 5, 0, 0, // read register 5, FSR
+    3, 1, 6, 0, 0, // read register 6, FAR
+    0, 1, 4, 3145728, 0, // load where level 1 has no entry
+    0, 1, 4, 1048594, 0, // load at an address that is no multiple of 4
+    0, 1, 3, 1048592, 0, // load of 3 bytes
+    4, 1, 1, 0, 5, // write register 1: Dcache without write buffer
+];
+
+fn print(text: &[u8]) {
+    io::write_all(1, text);
+}
+
+fn digit(n: u32) -> u8
+    requires { ⌜ n < 16 ⌝ }
+{
+    if n < 10 {
+        48 + (n as u8)
+    } else {
+        87 + (n as u8)
+    }
+}
+
+// A number in eight hexadecimal digits.
+fn print_hex(n: u32) {
+    let out = [
+        digit(n / 268435456),
+        digit(n / 16777216 % 16),
+        digit(n / 1048576 % 16),
+        digit(n / 65536 % 16),
+        digit(n / 4096 % 16),
+        digit(n / 256 % 16),
+        digit(n / 16 % 16),
+        digit(n % 16),
+    ];
+    print(&out);
+}
+
+// A number below 100 in two decimal digits.
+fn print_two(n: u32)
+    requires { ⌜ n < 100 ⌝ }
+{
+    let out = [digit(n / 10), digit(n % 10)];
+    print(&out);
+}
+
+// A call in words.
+fn print_call(kind: u32, privileged: u32, n: u32, a: u32, v: u32) {
+    if privileged == 1 {
+        print(b"privileged ");
+    } else {
+        print(b"user       ");
+    }
+    if kind == 3 {
+        print(b"read   register ");
+        print_two(n % 100);
+        print(b"               ");
+        return;
+    }
+    if kind == 4 {
+        print(b"write  register ");
+        print_two(n % 100);
+        print(b" = ");
+        print_hex(v);
+        print(b"    ");
+        return;
+    }
+    print_access(kind, n, a, v);
+}
+
+fn print_access(kind: u32, width: u32, a: u32, v: u32) {
+    if kind == 0 {
+        print(b"load   ");
+    }
+    if kind == 1 {
+        print(b"signed ");
+    }
+    if kind == 2 {
+        print(b"store  ");
+    }
+    print_two(width % 100);
+    print(b" at ");
+    print_hex(a);
+    if kind == 2 {
+        print(b" = ");
+        print_hex(v);
+        print(b" ");
+        return;
+    }
+    print(b"            ");
+}
+
+// An answer: kind × 2^32 + value.
+fn print_answer(code: u64) {
+    let kind = code / 4294967296;
+    let value = (code % 4294967296) as u32;
+    if kind == 0 {
+        print(b"  value ");
+        print_hex(value);
+        print(b"\n");
+        return;
+    }
+    if kind == 1 {
+        print(b"  fault, status ");
+        print_two(value % 16);
+        print(b" domain ");
+        print_two(value / 16 % 100);
+        print(b"\n");
+        return;
+    }
+    print(b"  refused by ");
+    print_two(value % 100);
+    print(b"\n");
+}
+
+// The page tables: at 4004 a section at 100000 onto 0, at 4008 a second-level table at 8000 for 200000 on, and at 8000 a small page onto 9000
+// that privileged modes alone may use.
+fn set_up(memory: &mut [u8])
+    requires { ⌜ length (now memory) ≡ 65536 ⌝ }
+    ensures { λ r. ⌜ length (now (memory .exit)) ≡ 65536 ⌝ }
+{
+    words::store(memory, 16388, 4, 3086);
+    words::store(memory, 16392, 4, 32801);
+    words::store(memory, 32768, 4, 36958);
+}
+
+fn main() {
+    let mut memory = [0u8; 65536];
+    let calls = CALLS;
+    let mut answers = [0u64; 16];
+    set_up(&mut memory);
+    let ran = plain::run(&mut memory, &calls, &mut answers);
+    let mut i: usize = 0;
+    while i < COUNT {
+        print_call(calls[i * 5], calls[i * 5 + 1], calls[i * 5 + 2], calls[i * 5 + 3], calls[i * 5 + 4]);
+        print_answer(answers[i]);
+        i += 1;
+    }
+    let state = ran.state;
+    print(b"calls counted ");
+    print_two(state.calls % 100);
+    print(b" of ");
+    print_two((ran.made % 100) as u32);
+    print(b"\n");
+}
