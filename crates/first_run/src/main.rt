@@ -10,22 +10,86 @@ const COUNT: usize = 16;
 // The calls, five numbers each: the call (0 load, 1 signed load, 2 store, 3 CP15 read, 4 CP15 write), privileged, the width or the register,
 // the address, the value.
 const CALLS: [u32; 80] = [
-    3, 1, 1, 0, 0, // read register 1, control
-    4, 1, 2, 0, 16384, // write register 2, table base
-    4, 1, 3, 0, 5, // write register 3, domains
-    4, 1, 1, 0, 15, // write register 1: MMU, alignment, Dcache, write buffer on
-    2, 1, 4, 1048592, 3405648436, // store a word through a section
-    0, 1, 4, 1048592, 0, // load it
-    1, 1, 1, 1048595, 0, // signed load of its top byte
-    2, 1, 2, 2098304, 48879, // store a halfword through a small page
-    0, 1, 2, 1086592, 0, // load it at its other address
-    0, 0, 4, 2098304, 0, // user load of that page
-    3, 1, 5, 0, 0, // read register 5, FSR
-    3, 1, 6, 0, 0, // read register 6, FAR
-    0, 1, 4, 3145728, 0, // load where level 1 has no entry
-    0, 1, 4, 1048594, 0, // load at an address that is no multiple of 4
-    0, 1, 3, 1048592, 0, // load of 3 bytes
-    4, 1, 1, 0, 5, // write register 1: Dcache without write buffer
+    3,
+    1,
+    1,
+    0,
+    0, // read register 1, control
+    4,
+    1,
+    2,
+    0,
+    16384, // write register 2, table base
+    4,
+    1,
+    3,
+    0,
+    5, // write register 3, domains
+    4,
+    1,
+    1,
+    0,
+    15, // write register 1: MMU, alignment, Dcache, write buffer on
+    2,
+    1,
+    4,
+    1048592,
+    3405648436, // store a word through a section
+    0,
+    1,
+    4,
+    1048592,
+    0, // load it
+    1,
+    1,
+    1,
+    1048595,
+    0, // signed load of its top byte
+    2,
+    1,
+    2,
+    2098304,
+    48879, // store a halfword through a small page
+    0,
+    1,
+    2,
+    1086592,
+    0, // load it at its other address
+    0,
+    0,
+    4,
+    2098304,
+    0, // user load of that page
+    3,
+    1,
+    5,
+    0,
+    0, // read register 5, FSR
+    3,
+    1,
+    6,
+    0,
+    0, // read register 6, FAR
+    0,
+    1,
+    4,
+    3145728,
+    0, // load where level 1 has no entry
+    0,
+    1,
+    4,
+    1048594,
+    0, // load at an address that is no multiple of 4
+    0,
+    1,
+    3,
+    1048592,
+    0, // load of 3 bytes
+    4,
+    1,
+    1,
+    0,
+    5, // write register 1: Dcache without write buffer
 ];
 
 fn print(text: &[u8]) {
@@ -153,7 +217,13 @@ fn main() {
     let ran = plain::run(&mut memory, &calls, &mut answers);
     let mut i: usize = 0;
     while i < COUNT {
-        print_call(calls[i * 5], calls[i * 5 + 1], calls[i * 5 + 2], calls[i * 5 + 3], calls[i * 5 + 4]);
+        print_call(
+            calls[i * 5],
+            calls[i * 5 + 1],
+            calls[i * 5 + 2],
+            calls[i * 5 + 3],
+            calls[i * 5 + 4],
+        );
         print_answer(answers[i]);
         i += 1;
     }

@@ -132,11 +132,7 @@ fn read_refusal(t: Transfer) -> u32
     ensures { λ r. ⌜ r ≡ refused.readRefusal t ⌝ }
 {
     if t.privileged {
-        if t.register <= 6 {
-            0
-        } else {
-            9
-        }
+        if t.register <= 6 { 0 } else { 9 }
     } else {
         8
     }

@@ -56,7 +56,13 @@ pub fn call_at(list: &[u32], i: usize) -> Call
     ensures { λ r. ⌜ r ≡ spec.callAt (now (list .entry)) i ⌝ }
 {
     let at = i * 5;
-    call_of(list[at], list[at + 1], list[at + 2], list[at + 3], list[at + 4])
+    call_of(
+        list[at],
+        list[at + 1],
+        list[at + 2],
+        list[at + 3],
+        list[at + 4],
+    )
 }
 
 // Whether the five numbers of entry i are a call.

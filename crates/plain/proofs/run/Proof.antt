@@ -46,13 +46,15 @@ table-requires c κs = search needs
 -- src/lib.rt:323:5
 run-calls-requires : tie.Need-run-calls-requires
 run-calls-requires c κs = let a = c .before .before .before .before .before .before .before .before .before .before .args in
-    let n = c .before .before .before .before .smaller .ensures in
-    (c .before .before .before .table .ensures, record {
-      calls-hold = rw n (calls-fit (length (now (a .calls))) (length (now (a .answers))));
-      answers-hold = rw n (answers-fit (length (now (a .calls))) (length (now (a .answers))));
-      whole = c .before .before .before .before .before .before .if1 .left;
-      short = c .before .before .before .before .before .if2 .left;
-    })
+    let n = c .before .before .before .before .smaller .ensures in (
+      c .before .before .before .table .ensures,
+      record {
+        calls-hold = rw n (calls-fit (length (now (a .calls))) (length (now (a .answers))));
+        answers-hold = rw n (answers-fit (length (now (a .calls))) (length (now (a .answers))));
+        whole = c .before .before .before .before .before .before .if1 .left;
+        short = c .before .before .before .before .before .if2 .left;
+      },
+    )
 
 -- src/lib.rt:302:1
 same-length : tie.Need-same-length
