@@ -1,2 +1,4 @@
 pub mod Packing
 pub mod Laws
+pub mod Covered
+pub mod Places
