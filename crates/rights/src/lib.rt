@@ -2,7 +2,7 @@
 ghost use mathlib.Core.Path.{_≡_};
 ghost use Prim.Native.Nat.{_<_, _*_};
 ghost use Rattle.values.specs.Tests.{bit};
-ghost use Rattle.rights.specs.Rights.{rights, rightsTable, domainValue};
+ghost use Rattle.rights.specs.Rights.{rights, rightsAt, rightsTable, domainValue};
 
 // Index: domain value × 64 + AP × 16 + S × 8 + R × 4 + privileged × 2 + store. 0 allowed, 1 domain fault, 2 permission fault.
 const RIGHTS: [u8; 256] = [
@@ -32,6 +32,14 @@ pub fn table() -> [u8; 256]
     ensures { λ r. ⌜ r ≡ rightsTable ⌝ }
 {
     RIGHTS
+}
+
+// The table's entry at an index.
+pub fn entry(index: u32) -> u8
+    requires { ⌜ index < 256 ⌝ }
+    ensures { λ r. ⌜ r ≡ rightsAt index ⌝ }
+{
+    RIGHTS[index as usize]
 }
 
 // The entry for an access by its domain value, its AP, the control register's S and R, its mode and its kind.

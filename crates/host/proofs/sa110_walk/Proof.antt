@@ -1,0 +1,28 @@
+use Rattle.host.specs.Exports.{mappingCode}
+use mathlib.Core.Path.{_∙_, ap}
+use borrow.Author.Needs.{needs}
+use Rattle.host.proofs.sa110_walk.Statement.{statement}
+use Rattle.host.proofs.sa110_walk.Tie as tie
+use Rattle.host.proofs.sa110_walk.Reads as reads
+use Rattle.host.proofs.sa110_walk.Lts as lts
+use Rattle.host.proofs.mapping_code.Reads as mapping-code-reads
+use Rattle.walk.proofs.walk.Reads as walk-reads
+
+-- src/lib.rt:50:32
+mul-walk : tie.Need-mul-walk
+mul-walk c = search needs
+
+-- src/lib.rt:50:9
+walk-requires : tie.Need-walk-requires
+walk-requires c κs = search needs
+
+-- src/lib.rt:51:5
+mapping-code-requires : tie.Need-mapping-code-requires
+mapping-code-requires c κs = search needs
+
+-- src/lib.rt:46:1
+returns : tie.Need-returns
+returns c = c .mapping-code .ensures ∙ ap mappingCode (c .before .walk .ensures .same)
+
+pub sa110-walk-spec : {M : Type 1} → statement M
+sa110-walk-spec = tie.close (tie.spec mul-walk walk-requires mapping-code-requires returns)

@@ -1,0 +1,74 @@
+// Functions for C and Rust: numbers and slices, each slice a pointer and a length.
+ghost use mathlib.Core.Path.{_≡_};
+ghost use Rattle.plain.specs.Run.{plainRun};
+ghost use Rattle.walk.specs.Ranges.{Ranged};
+ghost use Rattle.host.specs.Exports as spec;
+use values::VirtualAddress;
+use walk::Mapping;
+
+// What a run of the plain machine leaves: the five registers, the count of calls, the calls made, and refusal 1 or 0.
+#[repr(C)]
+pub struct PlainRan {
+    pub control: u32,
+    pub base: u32,
+    pub domains: u32,
+    pub fsr: u32,
+    pub far: u32,
+    pub calls: u32,
+    pub refusal: u32,
+    pub made: usize,
+}
+
+// An entry of the rights table: 0 allowed, 1 domain fault, 2 permission fault; 255 behind its end.
+#[no_mangle]
+pub extern "C" fn sa110_right(index: u32) -> u8
+    ensures { λ r. ⌜ r ≡ spec.rightCode index ⌝ }
+{
+    if index < 256 {
+        rights::entry(index)
+    } else {
+        255
+    }
+}
+
+// A mapping as a number.
+fn mapping_code(m: Mapping) -> u64
+    requires { ⌜ Ranged m ⌝ }
+    ensures { λ r. ⌜ r ≡ spec.mappingCode m ⌝ }
+{
+    match m {
+        Mapping::Found(e) => tlb::word_of(e),
+        Mapping::Failed(s, d) => 2 * ((d as u64) * 16 + (values::status_number(s) as u64)),
+    }
+}
+
+// The walk for an address: the word of a TLB entry, which is odd, or twice the fault's domain × 16 + status.
+#[no_mangle]
+pub extern "C" fn sa110_walk(memory: &[u8], base: u32, va: u32) -> u64
+    ensures { λ r. ⌜ r ≡ spec.walkCode (now (memory .entry)) base va ⌝ }
+{
+    let m = walk::walk(memory, base / 16384 * 16384, VirtualAddress(va));
+    mapping_code(m)
+}
+
+// A run of the plain machine over a list of calls, five numbers each.
+#[no_mangle]
+pub extern "C" fn sa110_plain_run(memory: &mut [u8], calls: &[u32], answers: &mut [u64]) -> PlainRan
+    ensures { λ r.
+        ⌜ spec.leftOf (now (memory .exit)) (now (answers .exit)) r
+        ≡ plainRun (now (memory .entry)) (now (calls .entry)) (now (answers .entry)) ⌝ }
+{
+    let r = plain::run(memory, calls, answers);
+    let s = r.state;
+    let registers = s.registers;
+    PlainRan {
+        control: registers.control,
+        base: registers.base,
+        domains: registers.domains,
+        fsr: registers.fsr,
+        far: registers.far,
+        calls: s.calls,
+        refusal: r.refusal,
+        made: r.made,
+    }
+}
