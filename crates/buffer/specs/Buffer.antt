@@ -33,10 +33,14 @@ slotAt b i = getD (b .slots) i emptySlot
 
 -- ---- leaving
 
+-- memory with a byte at the address, if the mask's bit 0 is set
+abbrev pub laidOne : List ℕ → ℕ → ℕ → ℕ → List ℕ
+laidOne memory a mask x = cond (bit mask 0) (set memory a x) memory
+
 -- memory with those bytes, from the address on, that the mask has; its bit 0 is for the first byte
 unfoldable pub laid : List ℕ → ℕ → ℕ → List ℕ → List ℕ
 laid memory a mask [] = memory
-laid memory a mask (x ∷ xs) = laid (cond (bit mask 0) (set memory a x) memory) (a + 1) (mask / 2) xs
+laid memory a mask (x ∷ xs) = laid (laidOne memory a mask x) (a + 1) (mask / 2) xs
 
 -- the oldest entry leaves for memory, and the others close up
 unfoldable pub oldestLeft : Backing → Backing

@@ -2,3 +2,4 @@ pub mod Cases
 pub mod Searches
 pub mod Maps
 pub mod InPlace
+pub mod Toward

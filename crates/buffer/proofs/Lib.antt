@@ -1,0 +1,4 @@
+pub mod Slots
+pub mod Laying
+pub mod NewestOf
+pub mod Closing

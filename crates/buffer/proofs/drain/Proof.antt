@@ -1,0 +1,87 @@
+use Rattle.buffer.specs.Buffer.{drained, leaving}
+use Rattle.buffer.specs.Packing.{backingOf}
+use Rattle.buffer.specs.Ranges.{Fits}
+use Rattle.buffer.proofs.Closing.{drain-more, drain-end}
+use mathlib.Core.Path.{_≡_, refl, _∙_, subst}
+use native.Mathlib.Omega.{arith}
+use denote.Ref.{now}
+use Prim.Native.Nat.{ℕ}
+use lib.ListN.{length}
+use borrow.Author.Needs.{needs}
+use Rattle.buffer.proofs.drain.Statement.{statement}
+use Rattle.buffer.proofs.drain.Tie as tie
+use Rattle.buffer.proofs.drain.Reads as reads
+use Rattle.buffer.proofs.drain.Lts as lts
+use Rattle.buffer.proofs.oldest_leaves.Reads as oldest-leaves-reads
+
+abbrev Inv-loop : tie.InvT-loop
+Inv-loop memory₀ words₀ used left₀ n₀ memory words left n = Fits memory words left n × (leaving n (backingOf memory words left n) ≡ leaving used (backingOf memory₀ words₀ left₀ used)) × (length memory ≡ length memory₀) × (length words ≡ length words₀)
+
+abbrev μ-loop : tie.MeasureT-loop
+μ-loop memory₀ words₀ used left₀ n₀ memory words left n = n
+
+-- src/lib.rt:150:5
+loop-holds : tie.Need-loop-holds Inv-loop μ-loop
+loop-holds c = (c .before .before .pre, refl, refl, refl)
+
+-- src/lib.rt:151:38
+slice-aggregate-oldest-leaves : tie.Need-slice-aggregate-oldest-leaves Inv-loop μ-loop
+slice-aggregate-oldest-leaves c = search needs
+
+-- src/lib.rt:151:9
+oldest-leaves-requires : tie.Need-oldest-leaves-requires Inv-loop μ-loop
+oldest-leaves-requires c κs = (c .before .before .before .before .loop .inv .0, c .before .before .before .loop-test .taken)
+
+-- src/lib.rt:152:9
+sub-n : tie.Need-sub-n Inv-loop μ-loop
+sub-n c = search needs
+
+-- src/lib.rt:150:5
+loop-less : tie.Need-loop-less Inv-loop μ-loop
+loop-less c = search needs
+
+-- src/lib.rt:150:5
+loop-again : tie.Need-loop-again Inv-loop μ-loop
+loop-again c = let a = c .before .before .before .before .before .before .before .before .before .before .before .before .before .args in
+    let l = c .before .before .before .before .before .before .before .before .before .before .loop in
+    let o = c .before .before .before .before .before .oldest-leaves in
+    let b = backingOf (now (a .memory)) (now (a .words)) (a .bytes) (a .used) in
+    (o .ensures .fits,
+      drain-more b (a .used) (l .memory) (l .words) (l .left) (l .n) (c .before .before .before .before .before .before .before .before .before .loop-test .taken) _ (o .ensures .same) (l .inv .1),
+      o .kept .0 ∙ l .inv .2,
+      o .kept .1 .0 ∙ l .inv .3)
+
+-- src/lib.rt:142:1
+same-length : tie.Need-same-length Inv-loop μ-loop
+same-length c = c .before .loop .inv .2
+
+-- src/lib.rt:142:1
+same-length-2 : tie.Need-same-length-2 Inv-loop μ-loop
+same-length-2 c = c .before .loop .inv .3
+
+-- src/lib.rt:142:1
+returns : tie.Need-returns Inv-loop μ-loop
+unfolding drained
+returns c = let a = c .before .before .before .before .args in
+    let l = c .before .loop in
+    let b = backingOf (now (a .memory)) (now (a .words)) (a .bytes) (a .used) in
+    let z : l .n ≡ 0 = omega (arith, c .loop-test .left) in
+    let f : Fits (l .memory) (l .words) (l .left) 0 = subst (λ (k : ℕ). Fits (l .memory) (l .words) (l .left) k) z (l .inv .0) in
+    let g : leaving 0 (backingOf (l .memory) (l .words) (l .left) 0) ≡ leaving (a .used) b = subst (λ (k : ℕ). leaving k (backingOf (l .memory) (l .words) (l .left) k) ≡ leaving (a .used) b) z (l .inv .1) in
+    record { same = drain-end b (a .used) (backingOf (l .memory) (l .words) (l .left) 0) 0 (omega arith) g; fits = f }
+
+pub drain-spec : {M : Type 1} → statement M
+drain-spec =
+    tie.close
+    (tie.spec
+    Inv-loop
+    μ-loop
+    loop-holds
+    slice-aggregate-oldest-leaves
+    oldest-leaves-requires
+    sub-n
+    loop-less
+    loop-again
+    same-length
+    same-length-2
+    returns)

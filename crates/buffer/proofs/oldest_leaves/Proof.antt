@@ -1,0 +1,79 @@
+use Rattle.buffer.proofs.Slots.{any-default}
+use Rattle.buffer.proofs.Closing.{oldest-left}
+use mathlib.Core.Path.{refl}
+use native.Mathlib.Omega.{arith}
+use denote.Ref.{now}
+use lib.ListN.{getD, replicate}
+use mathlib.Core.List.{[]}
+use borrow.Author.Needs.{needs}
+use Rattle.buffer.proofs.oldest_leaves.Statement.{statement}
+use Rattle.buffer.proofs.oldest_leaves.Tie as tie
+use Rattle.buffer.proofs.oldest_leaves.Reads as reads
+use Rattle.buffer.proofs.oldest_leaves.Lts as lts
+use Rattle.buffer.proofs.close_bytes.Reads as close-bytes-reads
+use Rattle.buffer.proofs.close_words.Reads as close-words-reads
+use Rattle.buffer.proofs.lay.Reads as lay-reads
+
+-- src/lib.rt:107:13
+slice-read-w : tie.Need-slice-read-w
+slice-read-w c = search needs
+
+-- src/lib.rt:108:13
+slice-copy-out-b : tie.Need-slice-copy-out-b
+slice-copy-out-b c = search needs
+
+-- src/lib.rt:110:16
+cast-mask : tie.Need-cast-mask
+cast-mask c = search needs
+
+-- src/lib.rt:111:17
+mul-lay : tie.Need-mul-lay
+mul-lay c = omega (arith, c .before .before .before .before .before .pre .0 .inside 0 (c .before .before .before .before .before .pre .1))
+
+-- src/lib.rt:111:5
+lay-requires : tie.Need-lay-requires
+lay-requires c κs = c .before .before .before .before .before .pre .0 .inside 0 (c .before .before .before .before .before .pre .1)
+
+-- src/lib.rt:112:5
+close-words-requires : tie.Need-close-words-requires
+close-words-requires c κs = search needs
+
+-- src/lib.rt:113:5
+close-bytes-requires : tie.Need-close-bytes-requires
+close-bytes-requires c κs = search needs
+
+-- src/lib.rt:101:1
+same-length : tie.Need-same-length
+same-length c = search needs
+
+-- src/lib.rt:101:1
+same-length-2 : tie.Need-same-length-2
+same-length-2 c = search needs
+
+-- src/lib.rt:101:1
+same-length-3 : tie.Need-same-length-3
+same-length-3 c = search needs
+
+-- src/lib.rt:101:1
+returns : tie.Need-returns
+returns c = let a = c .before .before .before .before .before .before .before .before .before .before .before .before .before .before .before .args in
+    let f = c .before .before .before .before .before .before .before .before .before .before .before .before .before .before .before .pre .0 in
+    let bs = now (a .bytes) in
+    rw (c .before .before .before .before .before .close-words .ensures, c .before .close-bytes .ensures)
+    (oldest-left (now (a .memory)) (now (a .words)) bs (a .used) f (c .before .before .before .before .before .before .before .before .before .before .before .before .before .before .before .pre .1) (c .before .before .before .before .before .before .before .before .before .lay .last .0) (getD (now (a .words)) 0 0) (getD bs 0 []) refl (any-default bs 0 [] (replicate 16 0) (omega (arith, f .bytes-long))) (c .before .before .before .before .before .before .before .before .before .lay .ensures))
+
+pub oldest-leaves-spec : {M : Type 1} → statement M
+oldest-leaves-spec =
+    tie.close
+    (tie.spec
+    slice-read-w
+    slice-copy-out-b
+    cast-mask
+    mul-lay
+    lay-requires
+    close-words-requires
+    close-bytes-requires
+    same-length
+    same-length-2
+    same-length-3
+    returns)

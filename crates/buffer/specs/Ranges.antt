@@ -1,0 +1,18 @@
+-- What the code asks of the buffer: eight places, no more entries, each inside memory.
+use Prim.Native.Nat.{ℕ, _+_, _*_, _<_, _≤_, _/_}
+use mathlib.Core.Path.{_≡_}
+use mathlib.Core.List.{List}
+use lib.ListN.{length, getD}
+use Rattle.buffer.specs.Buffer.{Backing}
+use Rattle.buffer.specs.Packing.{backingOf}
+
+pub record Fits (memory : List ℕ) (words : List ℕ) (bytes : List (List ℕ)) (used : ℕ) : Type 0 where
+  pub words-long : length words ≡ 8
+  pub bytes-long : length bytes ≡ 8
+  pub used-low : used ≤ 8
+  pub inside : (i : ℕ) → i < used → getD words i 0 / 4294967296 * 16 + 16 ≤ length memory
+
+-- what the code leaves is this backing, and fits
+pub record Left (memory words : List ℕ) (bytes : List (List ℕ)) (used : ℕ) (b : Backing) : Type 0 where
+  pub same : backingOf memory words bytes used ≡ b
+  pub fits : Fits memory words bytes used
