@@ -1,9 +1,9 @@
 -- "Buffer: eight entries of sixteen bytes each, with a 16-bit mask and a block number (physical address divided by 16), oldest leaving
 -- first when full or drained; the others close up, and bytes outside the mask are zero."
 use Prim.Native.Nat.{ℕ, zero, suc, _+_, _*_, _-_, _/_, _%_, _^_}
-use mathlib.Core.Bool.{Bool, true, false, cond, _&&_}
+use mathlib.Core.Bool.{Bool, true, false, cond, _&&_, _||_}
 use mathlib.Core.List.{List, [], _∷_, _++_}
-use lib.Dec.{eqb, ltb, leb}
+use lib.Dec.{eqb, ltb}
 use lib.Bits.{bitOr}
 use lib.ListN.{getD, set, take, drop, replicate}
 use Rattle.values.specs.Tests.{bit, any}
@@ -106,13 +106,18 @@ buffered b pa width v =
 
 -- ---- "if a masked byte lies in what is read (the whole line, or the access)"
 
--- one of the entry's first k bytes is masked and lies in the n bytes from a
-unfoldable pub meets : ℕ → ℕ → ℕ → Slot → Bool
-meets zero a n s = false
-meets (suc k) a n s = cond (bit (s .mask) k && (leb a (s .block * 16 + k) && ltb (s .block * 16 + k) (a + n))) true (meets k a n s)
+-- an entry masks the byte of a physical address
+abbrev pub masks : Slot → ℕ → Bool
+masks s p = eqb (p / 16) (s .block) && bit (s .mask) (p % 16)
 
+-- it masks one of the n bytes from a on
+unfoldable pub meets : ℕ → ℕ → Slot → Bool
+meets zero a s = false
+meets (suc n) a s = masks s a || meets n (a + 1) s
+
+-- one of the entries does
 unfoldable pub holds : Buffer → ℕ → ℕ → Bool
-holds b a n = any (meets 16 a n) (take (b .used) (b .slots))
+holds b a n = any (meets n a) (take (b .used) (b .slots))
 
 -- "first drains it if a masked byte lies in what is read": the n bytes from a
 unfoldable pub ready : Backing → ℕ → ℕ → Backing

@@ -1,8 +1,11 @@
 -- What the code asks of the buffer: eight places, no more entries, each inside memory.
-use Prim.Native.Nat.{ℕ, _+_, _*_, _<_, _≤_, _/_}
+use Prim.Native.Nat.{ℕ, _+_, _*_, _/_, _%_, _<_, _≤_}
 use mathlib.Core.Path.{_≡_}
+use mathlib.Core.Bool.{true}
 use mathlib.Core.List.{List}
 use lib.ListN.{length, getD}
+use Rattle.values.specs.declared.PhysicalAddress.{PhysicalAddress}
+use Rattle.words.specs.Words.{isWidth}
 use Rattle.buffer.specs.Buffer.{Backing}
 use Rattle.buffer.specs.Packing.{backingOf}
 
@@ -16,3 +19,9 @@ pub record Fits (memory : List ℕ) (words : List ℕ) (bytes : List (List ℕ))
 pub record Left (memory words : List ℕ) (bytes : List (List ℕ)) (used : ℕ) (b : Backing) : Type 0 where
   pub same : backingOf memory words bytes used ≡ b
   pub fits : Fits memory words bytes used
+
+-- a store of a width inside a block of memory
+pub record Stores (memory : List ℕ) (pa : PhysicalAddress) (width : ℕ) : Type 0 where
+  pub width-is : isWidth width ≡ true
+  pub in-block : pa .0 % 16 + width ≤ 16
+  pub inside : pa .0 / 16 * 16 + 16 ≤ length memory

@@ -2,12 +2,13 @@
 ghost use mathlib.Core.Path.{_≡_};
 ghost use mathlib.Core.Bool.{true};
 ghost use mathlib.Core.List.{List, [], _∷_, _++_};
-ghost use Prim.Native.Nat.{ℕ, _+_, _-_, _*_, _/_, _<_, _≤_};
+ghost use Prim.Native.Nat.{ℕ, _+_, _-_, _*_, _/_, _%_, _<_, _≤_};
+ghost use lib.Bits.{bitOr};
 ghost use lib.ListN.{length, getD, set, drop, replicate};
 ghost use Rattle.words.specs.Words.{isWidth, stored};
 ghost use Rattle.buffer.specs.Buffer as spec;
 ghost use Rattle.buffer.specs.Packing.{slotOf, slotsOf, backingOf};
-ghost use Rattle.buffer.specs.Ranges.{Fits, Left};
+ghost use Rattle.buffer.specs.Ranges.{Fits, Left, Stores};
 use values::PhysicalAddress;
 use values::Search;
 
@@ -64,13 +65,7 @@ fn with_store(entry: [u8; 16], offset: usize, width: u32, value: u32) -> [u8; 16
 }
 
 // The bytes of the entries, with a store's bytes in entry i.
-pub fn merge(
-    bytes: [[u8; 16]; 8],
-    i: usize,
-    offset: usize,
-    width: u32,
-    value: u32,
-) -> [[u8; 16]; 8]
+pub fn merge(bytes: [[u8; 16]; 8], i: usize, offset: usize, width: u32, value: u32) -> [[u8; 16]; 8]
     requires { ⌜ (i < 8) × (isWidth width ≡ true) × (offset + width ≤ 16) ⌝ }
     ensures { λ r. ⌜ r ≡ set bytes i (stored width (getD bytes i []) offset value) ⌝ }
 {
@@ -148,7 +143,12 @@ pub fn push(
 }
 
 // All entries leave, oldest first. It answers the bytes that are left, all zeros where the places behind the entries were empty.
-pub fn drain(memory: &mut [u8], words: &mut [u64], bytes: [[u8; 16]; 8], used: usize) -> [[u8; 16]; 8]
+pub fn drain(
+    memory: &mut [u8],
+    words: &mut [u64],
+    bytes: [[u8; 16]; 8],
+    used: usize,
+) -> [[u8; 16]; 8]
     requires { ⌜ Fits (now memory) (now words) bytes used ⌝ }
     ensures { λ r.
         ⌜ Left (now (memory .exit)) (now (words .exit)) r 0
@@ -161,4 +161,158 @@ pub fn drain(memory: &mut [u8], words: &mut [u64], bytes: [[u8; 16]; 8], used: u
         n -= 1;
     }
     left
+}
+
+// The mask of the bytes of an access, by its place in its block.
+fn mask_of(width: u32, offset: u32) -> u64
+    requires { ⌜ (isWidth width ≡ true) × (offset + width ≤ 16) ⌝ }
+    ensures { λ r. ⌜ (r ≡ spec.maskOf width offset) × (r < 65536) ⌝ }
+{
+    if width == 4 {
+        return 15 << offset;
+    }
+    if width == 2 {
+        return 3 << offset;
+    }
+    1 << offset
+}
+
+// A store's mask and bytes go into entry i.
+fn join(
+    words: &mut [u64],
+    bytes: &mut [[u8; 16]; 8],
+    i: usize,
+    mask: u64,
+    offset: usize,
+    width: u32,
+    value: u32,
+)
+    requires { ⌜ (length (now words) ≡ 8) × (i < 8) × (isWidth width ≡ true) × (offset + width ≤ 16) ⌝ }
+    ensures { λ r.
+        ⌜ (now (words .exit) ≡ set (now (words .entry)) i (bitOr (getD (now (words .entry)) i 0) mask))
+        × (now (bytes .exit) ≡ set (now (bytes .entry)) i (stored width (getD (now (bytes .entry)) i []) offset value)) ⌝ }
+{
+    words[i] = words[i] | mask;
+    let b = *bytes;
+    *bytes = merge(b, i, offset, width, value);
+}
+
+// A store of bytes inside memory joins the newest entry of its block, or takes a new one. It answers the number of entries.
+pub fn store(
+    memory: &mut [u8],
+    words: &mut [u64],
+    bytes: &mut [[u8; 16]; 8],
+    used: usize,
+    pa: PhysicalAddress,
+    width: u32,
+    value: u32,
+) -> usize
+    requires { ⌜ Fits (now memory) (now words) (now bytes) used × Stores (now memory) pa width ⌝ }
+    ensures { λ r.
+        ⌜ Left (now (memory .exit)) (now (words .exit)) (now (bytes .exit)) r
+        (spec.buffered (backingOf (now (memory .entry)) (now (words .entry)) (now (bytes .entry)) used) pa width value) ⌝ }
+{
+    let block = pa.0 / 16;
+    let offset = pa.0 % 16;
+    let mask = mask_of(width, offset);
+    let found = newest(words, used, block);
+    match found {
+        Search::At(i) => {
+            join(words, bytes, i, mask, offset as usize, width, value);
+            used
+        },
+        Search::Nothing => {
+            let fresh = with_store([0u8; 16], offset as usize, width, value);
+            push(
+                memory,
+                words,
+                bytes,
+                used,
+                (block as u64) * 4294967296 + mask,
+                fresh,
+            )
+        },
+    }
+}
+
+// A half line sent out takes a new entry. It answers the number of entries.
+pub fn push_half(
+    memory: &mut [u8],
+    words: &mut [u64],
+    bytes: &mut [[u8; 16]],
+    used: usize,
+    block: u32,
+    half: [u8; 16],
+) -> usize
+    requires { ⌜ Fits (now memory) (now words) (now bytes) used × (block * 16 + 16 ≤ length (now memory)) ⌝ }
+    ensures { λ r.
+        ⌜ Left (now (memory .exit)) (now (words .exit)) (now (bytes .exit)) r
+        (spec.halfPushed (backingOf (now (memory .entry)) (now (words .entry)) (now (bytes .entry)) used) block half) ⌝ }
+{
+    push(
+        memory,
+        words,
+        bytes,
+        used,
+        (block as u64) * 4294967296 + 65535,
+        half,
+    )
+}
+
+// Whether an entry masks a byte of an access.
+fn meets_access(w: u64, pa: PhysicalAddress, width: u32) -> bool
+    requires { ⌜ (isWidth width ≡ true) × (pa .0 % 16 + width ≤ 16) ⌝ }
+    ensures { λ r. ⌜ ((b : List ℕ) → r ≡ spec.meets width (pa .0) (slotOf w b)) ⌝ }
+{
+    if w / 4294967296 != (pa.0 / 16) as u64 {
+        return false;
+    }
+    let left = (w % 4294967296) >> (pa.0 % 16);
+    if width == 4 {
+        return left % 16 != 0;
+    }
+    if width == 2 {
+        return left % 4 != 0;
+    }
+    left % 2 != 0
+}
+
+// Whether an entry masks a byte of a line.
+fn meets_line(w: u64, frame: u32) -> bool
+    ensures { λ r. ⌜ ((b : List ℕ) → r ≡ spec.meets 32 (frame * 32) (slotOf w b)) ⌝ }
+{
+    if w / 8589934592 != frame as u64 {
+        return false;
+    }
+    w % 65536 != 0
+}
+
+// Whether one of the entries masks a byte of an access.
+pub fn holds_access(words: &[u64], used: usize, pa: PhysicalAddress, width: u32) -> bool
+    requires { ⌜ (length (now words) ≡ 8) × (used ≤ 8) × (isWidth width ≡ true) × (pa .0 % 16 + width ≤ 16) ⌝ }
+    ensures { λ r. ⌜ ((bytes : List (List ℕ)) → length bytes ≡ 8 → r ≡ spec.holds (record { slots = slotsOf (now (words .entry)) bytes; used = used }) (pa .0) width) ⌝ }
+{
+    let mut i: usize = 0;
+    while i < used {
+        if meets_access(words[i], pa, width) {
+            return true;
+        }
+        i += 1;
+    }
+    false
+}
+
+// Whether one of the entries masks a byte of a line.
+pub fn holds_line(words: &[u64], used: usize, frame: u32) -> bool
+    requires { ⌜ (length (now words) ≡ 8) × (used ≤ 8) ⌝ }
+    ensures { λ r. ⌜ ((bytes : List (List ℕ)) → length bytes ≡ 8 → r ≡ spec.holds (record { slots = slotsOf (now (words .entry)) bytes; used = used }) (frame * 32) 32) ⌝ }
+{
+    let mut i: usize = 0;
+    while i < used {
+        if meets_line(words[i], frame) {
+            return true;
+        }
+        i += 1;
+    }
+    false
 }

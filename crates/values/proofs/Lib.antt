@@ -3,3 +3,4 @@ pub mod Searches
 pub mod Maps
 pub mod InPlace
 pub mod Toward
+pub mod Anys

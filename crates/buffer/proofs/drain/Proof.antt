@@ -45,11 +45,12 @@ loop-again : tie.Need-loop-again Inv-loop μ-loop
 loop-again c = let a = c .before .before .before .before .before .before .before .before .before .before .before .before .before .args in
     let l = c .before .before .before .before .before .before .before .before .before .before .loop in
     let o = c .before .before .before .before .before .oldest-leaves in
-    let b = backingOf (now (a .memory)) (now (a .words)) (a .bytes) (a .used) in
-    (o .ensures .fits,
+    let b = backingOf (now (a .memory)) (now (a .words)) (a .bytes) (a .used) in (
+      o .ensures .fits,
       drain-more b (a .used) (l .memory) (l .words) (l .left) (l .n) (c .before .before .before .before .before .before .before .before .before .loop-test .taken) _ (o .ensures .same) (l .inv .1),
       o .kept .0 ∙ l .inv .2,
-      o .kept .1 .0 ∙ l .inv .3)
+      o .kept .1 .0 ∙ l .inv .3,
+    )
 
 -- src/lib.rt:142:1
 same-length : tie.Need-same-length Inv-loop μ-loop

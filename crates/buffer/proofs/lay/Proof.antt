@@ -49,10 +49,12 @@ loop-less c = search needs
 loop-again : tie.Need-loop-again Inv-loop μ-loop
 loop-again c = let a = c .before .before .before .before .before .before .before .args in
     let l = c .before .before .before .before .before .loop in
-    let n : length (a .t4) ≡ 16 = search needs in
-    (omega arith, c .before .before .lay-one .kept .0 ∙ l .inv .1,
+    let n : length (a .t4) ≡ 16 = search needs in (
+      omega arith,
+      c .before .before .lay-one .kept .0 ∙ l .inv .1,
       ap (λ (m : List ℕ). laid m (a .at + (l .i + 1)) (l .left / 2) (drop (l .i + 1) (a .t4))) (c .before .before .lay-one .ensures)
-      ∙ sym (lay-more (a .t4) (l .memory) (a .at) (l .left) (l .i) (omega arith)) ∙ l .inv .2)
+          ∙ sym (lay-more (a .t4) (l .memory) (a .at) (l .left) (l .i) (omega arith)) ∙ l .inv .2,
+    )
 
 -- src/lib.rt:15:1
 same-length : tie.Need-same-length Inv-loop μ-loop

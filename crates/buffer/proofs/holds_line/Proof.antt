@@ -1,0 +1,81 @@
+use Rattle.values.specs.Tests.{any}
+use Rattle.buffer.specs.Buffer.{meets, holds}
+use Rattle.buffer.specs.Packing.{slotsOf}
+use Rattle.buffer.proofs.Holding.{hold-hit, hold-on, hold-end}
+use mathlib.Core.Path.{_≡_, refl, sym, _∙_}
+use native.Mathlib.Omega.{arith}
+use denote.Ref.{now}
+use Prim.Native.Nat.{ℕ, _-_, _*_, _≤_}
+use lib.ListN.{length, take, drop}
+use mathlib.Core.List.{List}
+use borrow.Author.Needs.{needs}
+use Rattle.buffer.proofs.holds_line.Statement.{statement}
+use Rattle.buffer.proofs.holds_line.Tie as tie
+use Rattle.buffer.proofs.holds_line.Reads as reads
+use Rattle.buffer.proofs.holds_line.Lts as lts
+use Rattle.buffer.proofs.meets_line.Reads as meets-line-reads
+
+abbrev Inv-loop : tie.InvT-loop
+Inv-loop words used frame i₀ i = (i ≤ used) × ((bytes : List (List ℕ)) → length bytes ≡ 8 → any (meets 32 (frame * 32)) (drop i (take used (slotsOf words bytes))) ≡ holds (record { slots = slotsOf words bytes; used = used }) (frame * 32) 32)
+
+abbrev μ-loop : tie.MeasureT-loop
+μ-loop words used frame i₀ i = used - i
+
+-- src/lib.rt:298:5
+loop-holds : tie.Need-loop-holds Inv-loop μ-loop
+unfolding holds
+loop-holds c = (search needs, λ bytes h. refl)
+
+-- src/lib.rt:299:23
+mul-meets-line : tie.Need-mul-meets-line Inv-loop μ-loop
+mul-meets-line c = search needs
+
+-- src/lib.rt:299:23
+shared-slice-read-meets-line : tie.Need-shared-slice-read-meets-line Inv-loop μ-loop
+shared-slice-read-meets-line c = search needs
+
+-- src/lib.rt:299:12
+meets-line-requires : tie.Need-meets-line-requires Inv-loop μ-loop
+meets-line-requires c κs = search needs
+
+-- src/lib.rt:300:13
+returns : tie.Need-returns Inv-loop μ-loop
+returns c = let a = c .before .before .before .before .before .before .args in
+    let l = c .before .before .before .before .loop in
+    λ bytes h. sym (hold-hit 32 (a .frame * 32) (now (a .words)) bytes (a .used) (c .before .before .before .before .before .before .pre .0) h (c .before .before .before .before .before .before .pre .1) (l .i) (c .before .before .before .loop-test .taken) (sym (c .before .meets-line .ensures _) ∙ c .if1 .taken)) ∙ l .inv .1 bytes h
+
+-- src/lib.rt:302:9
+add-i : tie.Need-add-i Inv-loop μ-loop
+add-i c = search needs
+
+-- src/lib.rt:298:5
+loop-less : tie.Need-loop-less Inv-loop μ-loop
+loop-less c = search needs
+
+-- src/lib.rt:298:5
+loop-again : tie.Need-loop-again Inv-loop μ-loop
+loop-again c = let a = c .before .before .before .before .before .before .args in
+    let l = c .before .before .before .before .loop in
+    (omega arith, λ bytes h. sym (hold-on 32 (a .frame * 32) (now (a .words)) bytes (a .used) (c .before .before .before .before .before .before .pre .0) h (c .before .before .before .before .before .before .pre .1) (l .i) (c .before .before .before .loop-test .taken) (sym (c .before .meets-line .ensures _) ∙ c .if1 .left)) ∙ l .inv .1 bytes h)
+
+-- src/lib.rt:293:1
+returns-2 : tie.Need-returns-2 Inv-loop μ-loop
+returns-2 c = let a = c .before .before .before .args in
+    let l = c .before .loop in
+    λ bytes h. sym (hold-end 32 (a .frame * 32) (now (a .words)) bytes (a .used) (c .before .before .before .pre .0) h (c .before .before .before .pre .1) (l .i) (c .loop-test .left)) ∙ l .inv .1 bytes h
+
+pub holds-line-spec : {M : Type 1} → statement M
+holds-line-spec =
+    tie.close
+    (tie.spec
+    Inv-loop
+    μ-loop
+    loop-holds
+    mul-meets-line
+    shared-slice-read-meets-line
+    meets-line-requires
+    returns
+    add-i
+    loop-less
+    loop-again
+    returns-2)
