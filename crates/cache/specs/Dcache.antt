@@ -40,8 +40,11 @@ withLine c i l = record { lines = set (c .lines) i l; pointers = c .pointers; st
 
 -- ---- the search
 
+abbrev pub hasTag : ℕ → Line → Bool
+hasTag tag l = l .valid && eqb (l .tag) tag
+
 abbrev pub matches : VirtualAddress → Line → Bool
-matches va l = l .valid && eqb (l .tag) (tagOf va)
+matches va l = hasTag (tagOf va) l
 
 -- "The search of a set stops at the first match." "It is searched always, even when disabled."
 unfoldable pub find : List Line → VirtualAddress → Search
@@ -94,7 +97,7 @@ turned pointers s = set pointers s ((getD pointers s 0 + 1) % 32)
 
 -- the n bytes of the source from `from` on, laid over those of the destination from `at` on
 abbrev pub copied : List ℕ → ℕ → List ℕ → ℕ → ℕ → List ℕ
-copied destination at source from n = take at destination ++ (take n (drop from source) ++ drop (at + n) destination)
+copied destination at source from n = take at destination ++ take n (drop from source) ++ drop (at + n) destination
 
 -- "the line is read": into line i, from a backing in which no masked byte lies in it
 unfoldable pub lineRead : Dcache → ℕ → VirtualAddress → PhysicalAddress → List ℕ → Dcache

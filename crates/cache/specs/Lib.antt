@@ -1,1 +1,2 @@
 pub mod Dcache
+pub mod Packing

@@ -1,1 +1,146 @@
-// no code yet
+// The Dcache: 512 lines, each one word, in a lent slice; their bytes in the cache store.
+ghost use mathlib.Core.Path.{_≡_};
+ghost use mathlib.Core.Bool.{true};
+ghost use mathlib.Core.List.{List, [], _∷_, _++_};
+ghost use Prim.Native.Nat.{ℕ, _+_, _*_, _%_, _<_, _≤_};
+ghost use lib.ListN.{length, getD, set, take, drop};
+ghost use Rattle.values.specs.Empty.{emptyLine, noLines};
+ghost use Rattle.words.specs.Words.{isWidth, Loaded, stored};
+ghost use Rattle.cache.specs.Dcache as spec;
+ghost use Rattle.cache.specs.Packing.{lineOf, linesOf};
+use values::Line;
+use values::Search;
+use values::VirtualAddress;
+
+// The line that a word stands for.
+pub fn line_of(w: u64) -> Line
+    ensures { λ r. ⌜ r ≡ lineOf w ⌝ }
+{
+    Line {
+        valid: w % 2 == 1,
+        tag: (w / 4294967296) as u32,
+        frame: (w / 8 % 536870912) as u32,
+        low: w / 2 % 2 == 1,
+        high: w / 4 % 2 == 1,
+    }
+}
+
+// Whether a word stands for a valid line with the tag.
+fn has_tag(w: u64, tag: u32) -> bool
+    ensures { λ r. ⌜ r ≡ spec.hasTag tag (lineOf w) ⌝ }
+{
+    if w % 2 == 1 {
+        return w / 4294967296 == tag as u64;
+    }
+    false
+}
+
+// The first line of the address's set that matches, even when the cache is disabled.
+pub fn find(lines: &[u64], va: VirtualAddress) -> Search
+    requires { ⌜ (length (now lines) ≡ 512) × (va .0 < 4294967296) ⌝ }
+    ensures { λ r. ⌜ r ≡ spec.find (linesOf (now (lines .entry))) va ⌝ }
+{
+    let base = (va.0 / 32 % 16 * 32) as usize;
+    let tag = va.0 / 512;
+    let mut i: usize = 0;
+    let found = loop {
+        if i == 32 {
+            break Search::Nothing;
+        }
+        if has_tag(lines[base + i], tag) {
+            break Search::At(base + i);
+        }
+        i += 1;
+    };
+    found
+}
+
+// A load from line i.
+pub fn load(store: &[u8], i: usize, va: VirtualAddress, width: u32) -> u32
+    requires { ⌜ (length (now store) ≡ 16384) × (i < 512) × (isWidth width ≡ true) × (va .0 % 32 + width ≤ 32) ⌝ }
+    ensures { λ r. ⌜ Loaded width (now (store .entry)) (i * 32 + va .0 % 32) r ⌝ }
+{
+    words::load(store, i * 32 + (va.0 % 32) as usize, width)
+}
+
+// A word with the dirty bit of the half at an offset.
+fn marked(w: u64, offset: u32) -> u64
+    ensures { λ r. ⌜ lineOf r ≡ spec.marked (lineOf w) offset ⌝ }
+{
+    if offset < 16 {
+        if w / 2 % 2 == 1 {
+            return w;
+        }
+        return w + 2;
+    }
+    if w / 4 % 2 == 1 {
+        return w;
+    }
+    w + 4
+}
+
+// A store into line i, which marks its half.
+pub fn store(
+    lines: &mut [u64],
+    bytes: &mut [u8],
+    i: usize,
+    va: VirtualAddress,
+    width: u32,
+    value: u32,
+)
+    requires { ⌜ (length (now lines) ≡ 512) × (length (now bytes) ≡ 16384) × (i < 512) × (isWidth width ≡ true) × (va .0 % 32 + width ≤ 32) ⌝ }
+    ensures { λ r.
+        ⌜ ((pointers : List ℕ) → _≡_ {A = spec.Dcache}
+        (record { lines = linesOf (now (lines .exit)); pointers = pointers; store = now (bytes .exit) })
+        (spec.hitStore (record { lines = linesOf (now (lines .entry)); pointers = pointers; store = now (bytes .entry) }) i va width value)) ⌝ }
+{
+    let offset = va.0 % 32;
+    lines[i] = marked(lines[i], offset);
+    words::store(bytes, i * 32 + offset as usize, width, value);
+}
+
+// Sixteen bytes of the cache store.
+pub fn half_at(store: &[u8], at: usize) -> [u8; 16]
+    requires { ⌜ at + 16 ≤ length (now store) ⌝ }
+    ensures { λ r. ⌜ r ≡ take 16 (drop at (now (store .entry))) ⌝ }
+{
+    let mut out = [0u8; 16];
+    let mut i: usize = 0;
+    while i < 16 {
+        out[i] = store[at + i];
+        i += 1;
+    }
+    out
+}
+
+// The 32 bytes of a line of memory go to the cache store.
+pub fn read_line(store: &mut [u8], at: usize, memory: &[u8], from: usize)
+    requires { ⌜ (at + 32 ≤ length (now store)) × (from + 32 ≤ length (now memory)) ⌝ }
+    ensures { λ r. ⌜ now (store .exit) ≡ spec.copied (now (store .entry)) at (now (memory .entry)) from 32 ⌝ }
+{
+    let mut i: usize = 0;
+    while i < 32 {
+        store[at + i] = memory[from + i];
+        i += 1;
+    }
+}
+
+// A line is emptied.
+pub fn empty_line(lines: &mut [u64], i: usize)
+    requires { ⌜ (length (now lines) ≡ 512) × (i < 512) ⌝ }
+    ensures { λ r. ⌜ linesOf (now (lines .exit)) ≡ set (linesOf (now (lines .entry))) i emptyLine ⌝ }
+{
+    lines[i] = 0;
+}
+
+// All lines are emptied.
+pub fn flush(lines: &mut [u64])
+    requires { ⌜ length (now lines) ≡ 512 ⌝ }
+    ensures { λ r. ⌜ linesOf (now (lines .exit)) ≡ noLines ⌝ }
+{
+    let mut i: usize = 0;
+    while i < 512 {
+        lines[i] = 0;
+        i += 1;
+    }
+}

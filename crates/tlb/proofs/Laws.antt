@@ -14,8 +14,8 @@ use Rattle.values.specs.declared.PhysicalAddress.{PhysicalAddress}
 use Rattle.values.specs.declared.Entry.{Entry}
 use Rattle.values.specs.declared.Search.the-variants.{At, Nothing}
 use Rattle.values.proofs.Searches.{search-hit, search-on, search-end}
-use Rattle.values.proofs.Maps.{map-set}
-use Rattle.values.proofs.InPlace.{Upto, upto-step, upto-end, map-constant}
+use Rattle.values.proofs.Maps.{map-set, words-step}
+use Rattle.values.proofs.InPlace.{Upto, upto-end, map-constant}
 use Rattle.tlb.specs.Tlb.{covers, lookup, translated, apOf, quarterOf, placed, flushed, dropped, keptOf}
 use Rattle.tlb.specs.Packing.{entryOf, wordOf, entriesOf}
 use Rattle.walk.specs.Ranges.{InRange}
@@ -94,9 +94,7 @@ place-at ws i w e r p = map-set entryOf ws i w ∙ ap (λ (x : Entry). set (entr
 -- one place more in a loop that replaces each entry by a function of it
 pub entries-step : (f : Entry → Entry) (old ws : List ℕ) (i w : ℕ) → Upto f (entriesOf old) (entriesOf ws) i → i < length ws
     → entryOf w ≡ f (entryOf (getD ws i 0)) → Upto f (entriesOf old) (entriesOf (set ws i w)) (i + 1)
-entries-step f old ws i w u h e =
-    let s = upto-step f (entriesOf old) (entriesOf ws) i u (entryOf w) emptyEntry (rw length-map h) (e ∙ ap f (sym (entry-at ws i))) in
-    rw map-set s
+entries-step f old ws i w u h e = words-step entryOf emptyEntry entry-zero f old ws i w u h e
 
 -- the constant function of a flush
 abbrev pub emptied : Entry → Entry

@@ -5,11 +5,12 @@ use mathlib.Core.Bool.{Bool}
 use mathlib.Core.Path.{_≡_, refl, sym, _∙_, ap}
 use mathlib.Core.List.{List, map}
 use lib.Dec.{eqb}
-use lib.ListN.{getD, List·getD-map}
+use lib.ListN.{getD}
 use Rattle.values.specs.Tests.{number}
 use Rattle.values.specs.Empty.{emptyEntry}
 use Rattle.values.specs.declared.Entry.{Entry}
 use Rattle.values.proofs.Cases.{number-bit, number-low}
+use Rattle.values.proofs.Maps.{map-at}
 use Rattle.tlb.specs.Packing.{entryOf, wordOf, entriesOf}
 use Rattle.walk.specs.Ranges.{InRange}
 
@@ -99,4 +100,4 @@ entry-zero = refl
 
 -- an entry of a list of words
 pub entry-at : (ws : List ℕ) (i : ℕ) → getD (entriesOf ws) i emptyEntry ≡ entryOf (getD ws i 0)
-entry-at ws i = ap (λ (d : Entry). getD (entriesOf ws) i d) (sym entry-zero) ∙ List·getD-map entryOf ws i 0
+entry-at ws i = map-at entryOf emptyEntry entry-zero ws i

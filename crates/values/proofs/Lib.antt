@@ -1,6 +1,6 @@
 pub mod Cases
 pub mod Searches
-pub mod Maps
 pub mod InPlace
+pub mod Maps
 pub mod Toward
 pub mod Anys

@@ -1,0 +1,37 @@
+-- Bytes copied one by one.
+use Prim.Native.Nat.{ℕ, suc, _+_, _<_, _≤_}
+use native.Mathlib.Omega.{arith}
+use native.Mathlib.Numerals.{add-one}
+use mathlib.Core.Path.{_≡_, refl, sym, _∙_, ap, subst}
+use mathlib.Core.List.{List, _++_}
+use lib.ListN.{length, length-drop, getD, set, take, drop}
+use lib.Seq.{paste, paste-zero, paste-suc, length-paste, getD-take, getD-drop, length-take-le, take-all}
+use Rattle.values.proofs.Toward.{Toward, toward-step}
+use Rattle.cache.specs.Dcache.{copied}
+
+-- into an array of sixteen
+module _ (store : List ℕ) (at : ℕ) (h : at + 16 ≤ length store) (old out : List ℕ) (i : ℕ) (t : Toward (take 16 (drop at store)) old out i) where
+  long : length (take 16 (drop at store)) ≡ 16
+  long = length-take-le 16 (drop at store) (rw (length-drop at store) (omega arith))
+
+  pub half-step : i < 16 → length out ≡ 16 → Toward (take 16 (drop at store)) old (set out i (getD store (at + i) 0)) (i + 1)
+  half-step k n =
+      toward-step (take 16 (drop at store)) old out i t (getD store (at + i) 0) 0 (omega arith) (rw long k)
+      (sym (getD-take 16 (drop at store) i 0 k ∙ getD-drop at store i 0))
+
+  pub half-end : 16 ≤ i → length out ≡ 16 → out ≡ take 16 (drop at store)
+  half-end k n = sym (take-all i out (omega arith)) ∙ t .front ∙ take-all i (take 16 (drop at store)) (rw long k)
+
+-- over a part of a list
+module _ (d : List ℕ) (at : ℕ) (s : List ℕ) (from : ℕ) where
+  pub copy-start : d ≡ copied d at s from 0
+  copy-start = paste-zero d at (drop from s)
+
+  pub copy-step : (now : List ℕ) (i : ℕ) → now ≡ copied d at s from i → at + i < length d → from + i < length s
+      → set now (at + i) (getD s (from + i) 0) ≡ copied d at s from (i + 1)
+  copy-step now i e h k =
+      let l : i < length (drop from s) = rw (length-drop from s) (omega arith) in
+      ap (λ (x : List ℕ). set x (at + i) (getD s (from + i) 0)) e
+      ∙ ap (λ (x : ℕ). set (copied d at s from i) (at + i) x) (sym (getD-drop from s i 0))
+      ∙ paste-suc d at (drop from s) i 0 h l
+      ∙ ap (λ (n : ℕ). copied d at s from n) (sym (add-one i))

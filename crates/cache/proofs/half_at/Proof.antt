@@ -1,0 +1,70 @@
+use Rattle.values.proofs.Toward.{Toward, toward-start}
+use Rattle.cache.specs.Dcache as spec
+use Rattle.cache.proofs.Copies.{half-step, half-end}
+use mathlib.Core.Path.{_≡_}
+use native.Mathlib.Omega.{arith}
+use denote.Ref.{now}
+use Prim.Native.Nat.{_-_, _≤_}
+use lib.ListN.{length, length-set, take, drop}
+use borrow.Author.Needs.{needs}
+use Rattle.cache.proofs.half_at.Statement.{statement}
+use Rattle.cache.proofs.half_at.Tie as tie
+use Rattle.cache.proofs.half_at.Reads as reads
+use Rattle.cache.proofs.half_at.Lts as lts
+
+abbrev Inv-loop : tie.InvT-loop
+Inv-loop store at out₀ i₀ out i = (i ≤ 16) × (length out ≡ 16) × Toward (take 16 (drop at store)) out₀ out i
+
+abbrev μ-loop : tie.MeasureT-loop
+μ-loop store at out₀ i₀ out i = 16 - i
+
+-- src/lib.rt:109:5
+loop-holds : tie.Need-loop-holds Inv-loop μ-loop
+loop-holds c = (search needs, search needs, toward-start (take 16 (drop (c .args .at) (now (c .args .store)))) _)
+
+-- src/lib.rt:110:24
+add-out : tie.Need-add-out Inv-loop μ-loop
+add-out c = search needs
+
+-- src/lib.rt:110:18
+shared-slice-read-out : tie.Need-shared-slice-read-out Inv-loop μ-loop
+shared-slice-read-out c = search needs
+
+-- src/lib.rt:110:9
+array-write-out : tie.Need-array-write-out Inv-loop μ-loop
+array-write-out c = search needs
+
+-- src/lib.rt:111:9
+add-i : tie.Need-add-i Inv-loop μ-loop
+add-i c = search needs
+
+-- src/lib.rt:109:5
+loop-less : tie.Need-loop-less Inv-loop μ-loop
+loop-less c = search needs
+
+-- src/lib.rt:109:5
+loop-again : tie.Need-loop-again Inv-loop μ-loop
+loop-again c = let a = c .before .before .before .args in
+    let l = c .before .before .loop in
+    (omega arith, simp length-set (l .inv .1), half-step (now (a .store)) (a .at) (c .before .before .before .pre) _ (l .out) (l .i) (l .inv .2) (c .before .loop-test .taken) (l .inv .1))
+
+-- src/lib.rt:103:1
+returns : tie.Need-returns Inv-loop μ-loop
+returns c = let a = c .before .before .args in
+    let l = c .before .loop in
+    half-end (now (a .store)) (a .at) (c .before .before .pre) _ (l .out) (l .i) (l .inv .2) (c .loop-test .left) (l .inv .1)
+
+pub half-at-spec : {M : Type 1} → statement M
+half-at-spec =
+    tie.close
+    (tie.spec
+    Inv-loop
+    μ-loop
+    loop-holds
+    add-out
+    shared-slice-read-out
+    array-write-out
+    add-i
+    loop-less
+    loop-again
+    returns)

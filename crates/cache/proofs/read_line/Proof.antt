@@ -1,0 +1,81 @@
+use Rattle.cache.specs.Dcache.{copied}
+use Rattle.cache.specs.Dcache as spec
+use Rattle.cache.proofs.Copies.{copy-start, copy-step}
+use mathlib.Core.Path.{_≡_, refl, _∙_, ap}
+use native.Mathlib.Omega.{arith}
+use denote.Ref.{now}
+use Prim.Native.Nat.{ℕ, _-_, _≤_}
+use lib.ListN.{length, length-set}
+use borrow.Author.Needs.{needs}
+use Rattle.cache.proofs.read_line.Statement.{statement}
+use Rattle.cache.proofs.read_line.Tie as tie
+use Rattle.cache.proofs.read_line.Reads as reads
+use Rattle.cache.proofs.read_line.Lts as lts
+
+abbrev Inv-loop : tie.InvT-loop
+Inv-loop store₀ at memory from i₀ store i = (i ≤ 32) × (length store ≡ length store₀) × (store ≡ copied store₀ at memory from i)
+
+abbrev μ-loop : tie.MeasureT-loop
+μ-loop store₀ at memory from i₀ store i = 32 - i
+
+-- src/lib.rt:122:5
+loop-holds : tie.Need-loop-holds Inv-loop μ-loop
+loop-holds c = let a = c .args in (search needs, refl, copy-start (now (a .store)) (a .at) (now (a .memory)) (a .from))
+
+-- src/lib.rt:123:32
+add-store : tie.Need-add-store Inv-loop μ-loop
+add-store c = search needs
+
+-- src/lib.rt:123:25
+shared-slice-read-store : tie.Need-shared-slice-read-store Inv-loop μ-loop
+shared-slice-read-store c = search needs
+
+-- src/lib.rt:123:15
+add-store-2 : tie.Need-add-store-2 Inv-loop μ-loop
+add-store-2 c = search needs
+
+-- src/lib.rt:123:9
+slice-write-store : tie.Need-slice-write-store Inv-loop μ-loop
+slice-write-store c = search needs
+
+-- src/lib.rt:124:9
+add-i : tie.Need-add-i Inv-loop μ-loop
+add-i c = search needs
+
+-- src/lib.rt:122:5
+loop-less : tie.Need-loop-less Inv-loop μ-loop
+loop-less c = search needs
+
+-- src/lib.rt:122:5
+loop-again : tie.Need-loop-again Inv-loop μ-loop
+loop-again c = let a = c .before .before .before .args in
+    let l = c .before .before .loop in
+    (omega arith, simp length-set (l .inv .1), copy-step (now (a .store)) (a .at) (now (a .memory)) (a .from) (l .store) (l .i) (l .inv .2) (omega arith) (omega arith))
+
+-- src/lib.rt:117:1
+same-length : tie.Need-same-length Inv-loop μ-loop
+same-length c = c .before .loop .inv .1
+
+-- src/lib.rt:117:1
+returns : tie.Need-returns Inv-loop μ-loop
+returns c = let l = c .before .loop in
+    let e : l .i ≡ 32 = omega (arith, c .loop-test .left, l .inv .0) in
+    let a = c .before .before .args in
+    l .inv .2 ∙ ap (λ (k : ℕ). copied (now (a .store)) (a .at) (now (a .memory)) (a .from) k) e
+
+pub read-line-spec : {M : Type 1} → statement M
+read-line-spec =
+    tie.close
+    (tie.spec
+    Inv-loop
+    μ-loop
+    loop-holds
+    add-store
+    shared-slice-read-store
+    add-store-2
+    slice-write-store
+    add-i
+    loop-less
+    loop-again
+    same-length
+    returns)
