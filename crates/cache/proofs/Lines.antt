@@ -15,7 +15,7 @@ use Rattle.values.specs.declared.Search.the-variants.{At, Nothing}
 use Rattle.values.proofs.Searches.{search-hit, search-on, search-end}
 use Rattle.values.proofs.Maps.{map-at, map-set, words-step}
 use Rattle.values.proofs.InPlace.{Upto, upto-end, map-constant}
-use Rattle.cache.specs.Dcache.{hasTag, marked}
+use Rattle.cache.specs.Dcache.{hasTag, marked, cleanLine}
 use Rattle.cache.specs.Packing.{lineOf, linesOf}
 
 pub line-zero : lineOf 0 ≡ emptyLine
@@ -138,3 +138,35 @@ pub flush-end : (old ws : List ℕ) (i : ℕ) → Upto emptied (linesOf old) (li
 flush-end old ws i u n h =
     upto-end emptied (linesOf old) (linesOf ws) i u (rw length-map (omega arith)) ∙ map-constant emptyLine (linesOf old)
     ∙ ap (λ (k : ℕ). replicate k emptyLine) (length-map old lineOf ∙ n)
+
+-- ---- a clean
+
+-- a number with bits 1 and 2 clear
+record Clear (q b x : ℕ) : Type 0 where
+  zero-bit : x / 1 % 2 ≡ b
+  one-bit : x / 2 % 2 ≡ 0
+  two-bit : x / 4 % 2 ≡ 0
+  rest : x / 8 ≡ q
+
+clear : (q b x : ℕ) → x ≡ q * 8 + b → b < 2 → Clear q b x
+clear q b x e h =
+    let f1 : x / 2 ≡ q * 4 = omega arith in
+    let f2 : x / 4 ≡ q * 2 = omega arith in
+    record { zero-bit = omega arith; one-bit = rw f1 (four q); two-bit = rw f2 (two q); rest = omega arith }
+  where
+    four : (y : ℕ) → y * 4 % 2 ≡ 0
+    four y = omega arith
+    two : (y : ℕ) → y * 2 % 2 ≡ 0
+    two y = omega arith
+
+above-frame : (x : ℕ) → x / 4294967296 ≡ x / 8 / 536870912
+above-frame x = omega arith
+
+pub clean-word : (w : ℕ) → lineOf (w / 8 * 8 + w % 2) ≡ cleanLine (lineOf w)
+unfolding lineOf
+clean-word w =
+    let x = w / 8 * 8 + w % 2 in
+    let c = clear (w / 8) (w % 2) x refl (omega arith) in
+    let v : w / 1 % 2 ≡ w % 2 = omega arith in
+    let t : x / 4294967296 ≡ w / 4294967296 = above-frame x ∙ ap (λ (y : ℕ). y / 536870912) (c .rest) ∙ sym (above-frame w) in
+    rw (c .zero-bit, c .one-bit, c .two-bit, t, c .rest, v)

@@ -72,15 +72,13 @@ hitStore c i va width v =
 
 -- ---- halves sent out
 
+-- a half that is dirty goes to the buffer: the sixteen bytes from a on in the cache store
+abbrev pub halfSent : Bool → Backing → ℕ → List ℕ → ℕ → Backing
+halfSent dirty b block store a = cond dirty (halfPushed b block (take 16 (drop a store))) b
+
 -- "its dirty halves go to the buffer, low half first": of line l, whose bytes begin at a in the cache store
-abbrev pub lowSent : Backing → Line → List ℕ → ℕ → Backing
-lowSent b l store a = cond (l .low) (halfPushed b (l .frame * 2) (take 16 (drop a store))) b
-
-abbrev pub highSent : Backing → Line → List ℕ → ℕ → Backing
-highSent b l store a = cond (l .high) (halfPushed b (l .frame * 2 + 1) (take 16 (drop (a + 16) store))) b
-
 unfoldable pub halvesSent : Backing → Line → List ℕ → ℕ → Backing
-halvesSent b l store a = highSent (lowSent b l store a) l store a
+halvesSent b l store a = halfSent (l .high) (halfSent (l .low) b (l .frame * 2) store a) (l .frame * 2 + 1) store (a + 16)
 
 abbrev pub dirtyHalves : Line → ℕ
 dirtyHalves l = number (l .low) + number (l .high)
@@ -119,6 +117,10 @@ filled s va pa =
 
 -- ---- clean and flush
 
+-- a line with its dirty bits cleared
+abbrev pub cleanLine : Line → Line
+cleanLine l = record { valid = l .valid; tag = l .tag; frame = l .frame; low = false; high = false }
+
 -- "A clean sends dirty halves to the buffer, low half first, clears their dirty bits and leaves the line valid."
 unfoldable pub cleanedAt : Side → Search → Sent
 cleanedAt s Nothing = record { side = s; halves = 0 }
@@ -126,7 +128,7 @@ cleanedAt s (At i) =
     let l = lineAt (s .cache) i in
     record {
       side = record {
-        cache = withLine (s .cache) i (record { valid = l .valid; tag = l .tag; frame = l .frame; low = false; high = false });
+        cache = withLine (s .cache) i (cleanLine l);
         backing = halvesSent (s .backing) l (s .cache .store) (i * 32);
       };
       halves = dirtyHalves l;

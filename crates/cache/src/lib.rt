@@ -6,6 +6,8 @@ ghost use Prim.Native.Nat.{ℕ, _+_, _*_, _%_, _<_, _≤_};
 ghost use lib.ListN.{length, getD, set, take, drop};
 ghost use Rattle.values.specs.Empty.{emptyLine, noLines};
 ghost use Rattle.words.specs.Words.{isWidth, Loaded, stored};
+ghost use Rattle.buffer.specs.Packing.{backingOf};
+ghost use Rattle.buffer.specs.Ranges.{Fits, Left};
 ghost use Rattle.cache.specs.Dcache as spec;
 ghost use Rattle.cache.specs.Packing.{lineOf, linesOf};
 use values::Line;
@@ -143,4 +145,53 @@ pub fn flush(lines: &mut [u64])
         lines[i] = 0;
         i += 1;
     }
+}
+
+// A half line, if it is dirty, goes to the buffer. It answers the number of entries.
+fn send_half(
+    memory: &mut [u8],
+    words: &mut [u64],
+    bytes: &mut [[u8; 16]],
+    used: usize,
+    dirty: bool,
+    block: u32,
+    store: &[u8],
+    at: usize,
+) -> usize
+    requires { ⌜ Fits (now memory) (now words) (now bytes) used × (block * 16 + 16 ≤ length (now memory)) × (at + 16 ≤ length (now store)) ⌝ }
+    ensures { λ r.
+        ⌜ Left (now (memory .exit)) (now (words .exit)) (now (bytes .exit)) r
+        (spec.halfSent dirty (backingOf (now (memory .entry)) (now (words .entry)) (now (bytes .entry)) used) block (now (store .entry)) at) ⌝ }
+{
+    if dirty {
+        let half = half_at(store, at);
+        return buffer::push_half(memory, words, bytes, used, block, half);
+    }
+    used
+}
+
+// A line's dirty halves go to the buffer, low half first. It answers the number of entries.
+pub fn send_halves(
+    memory: &mut [u8],
+    words: &mut [u64],
+    bytes: &mut [[u8; 16]],
+    used: usize,
+    l: Line,
+    store: &[u8],
+    at: usize,
+) -> usize
+    requires { ⌜ Fits (now memory) (now words) (now bytes) used × (l .frame * 32 + 32 ≤ length (now memory)) × (length (now memory) ≤ 16777216) × (at + 32 ≤ length (now store)) ⌝ }
+    ensures { λ r.
+        ⌜ Left (now (memory .exit)) (now (words .exit)) (now (bytes .exit)) r
+        (spec.halvesSent (backingOf (now (memory .entry)) (now (words .entry)) (now (bytes .entry)) used) l (now (store .entry)) at) ⌝ }
+{
+    let n = send_half(memory, words, bytes, used, l.low, l.frame * 2, store, at);
+    send_half(memory, words, bytes, n, l.high, l.frame * 2 + 1, store, at + 16)
+}
+
+// A word without its dirty bits.
+fn cleaned_word(w: u64) -> u64
+    ensures { λ r. ⌜ lineOf r ≡ spec.cleanLine (lineOf w) ⌝ }
+{
+    w / 8 * 8 + w % 2
 }

@@ -1,0 +1,21 @@
+use Rattle.cache.proofs.Lines.{clean-word}
+use borrow.Author.Needs.{needs}
+use Rattle.cache.proofs.cleaned_word.Statement.{statement}
+use Rattle.cache.proofs.cleaned_word.Tie as tie
+use Rattle.cache.proofs.cleaned_word.Reads as reads
+use Rattle.cache.proofs.cleaned_word.Lts as lts
+
+-- src/lib.rt:196:5
+mul-result : tie.Need-mul-result
+mul-result c = search needs
+
+-- src/lib.rt:196:5
+add-result : tie.Need-add-result
+add-result c = search needs
+
+-- src/lib.rt:193:1
+returns : tie.Need-returns
+returns c = clean-word (c .args .w)
+
+pub cleaned-word-spec : {M : Type 1} → statement M
+cleaned-word-spec = tie.close (tie.spec mul-result add-result returns)
