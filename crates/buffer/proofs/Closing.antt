@@ -13,7 +13,7 @@ use Rattle.values.specs.Empty.{emptySlot}
 use Rattle.values.specs.declared.Slot.{Slot}
 use Rattle.values.proofs.Cases.{case}
 use Rattle.values.proofs.Toward.{Toward, toward-step}
-use Rattle.buffer.specs.Buffer.{Backing, laid, oldestLeft, behind, pushed, leaving}
+use Rattle.buffer.specs.Buffer.{Backing, laid, oldestLeft, behind, pushed, leaving, drained, holds, ready}
 use Rattle.buffer.specs.Packing.{slotOf, slotsOf, backingOf}
 use Rattle.buffer.specs.Ranges.{Fits, Left}
 use Rattle.buffer.proofs.Slots.{slot-at, slots-set, slots-drop, slots-append}
@@ -138,3 +138,16 @@ module _ (b₀ : Backing) (n : ℕ) where
   pub drain-end : (x : Backing) (k : ℕ) → k ≤ 0 → leaving k x ≡ leaving n b₀ → x ≡ leaving n b₀
   unfolding leaving
   drain-end x k h g = let j : k ≡ 0 = omega arith in subst (λ (i : ℕ). leaving i x ≡ leaving n b₀) j g
+
+-- ---- before a read
+
+module _ (m ws : List ℕ) (bs : List (List ℕ)) (used a n : ℕ) where
+  pub ready-drained : holds (record { slots = slotsOf ws bs; used = used }) a n ≡ true → (m′ ws′ : List ℕ) (bs′ : List (List ℕ)) (used′ : ℕ)
+      → Left m′ ws′ bs′ used′ (drained (backingOf m ws bs used)) → Left m′ ws′ bs′ used′ (ready (backingOf m ws bs used) a n)
+  unfolding ready
+  ready-drained h m′ ws′ bs′ used′ l = rw h l
+
+  pub ready-kept : holds (record { slots = slotsOf ws bs; used = used }) a n ≡ false → Fits m ws bs used
+      → Left m ws bs used (ready (backingOf m ws bs used) a n)
+  unfolding ready
+  ready-kept h f = rw h (record { same = refl; fits = f })

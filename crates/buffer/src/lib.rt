@@ -316,3 +316,46 @@ pub fn holds_line(words: &[u64], used: usize, frame: u32) -> bool
     }
     false
 }
+
+// Before a line is read, the buffer is drained if an entry masks a byte of it. It answers the number of entries.
+pub fn ready_line(
+    memory: &mut [u8],
+    words: &mut [u64],
+    bytes: &mut [[u8; 16]; 8],
+    used: usize,
+    frame: u32,
+) -> usize
+    requires { ⌜ Fits (now memory) (now words) (now bytes) used ⌝ }
+    ensures { λ r.
+        ⌜ Left (now (memory .exit)) (now (words .exit)) (now (bytes .exit)) r
+        (spec.ready (backingOf (now (memory .entry)) (now (words .entry)) (now (bytes .entry)) used) (frame * 32) 32) ⌝ }
+{
+    if holds_line(words, used, frame) {
+        let b = *bytes;
+        *bytes = drain(memory, words, b, used);
+        return 0;
+    }
+    used
+}
+
+// Before an access is read from memory, the buffer is drained if an entry masks a byte of it. It answers the number of entries.
+pub fn ready_access(
+    memory: &mut [u8],
+    words: &mut [u64],
+    bytes: &mut [[u8; 16]; 8],
+    used: usize,
+    pa: PhysicalAddress,
+    width: u32,
+) -> usize
+    requires { ⌜ Fits (now memory) (now words) (now bytes) used × (isWidth width ≡ true) × (pa .0 % 16 + width ≤ 16) ⌝ }
+    ensures { λ r.
+        ⌜ Left (now (memory .exit)) (now (words .exit)) (now (bytes .exit)) r
+        (spec.ready (backingOf (now (memory .entry)) (now (words .entry)) (now (bytes .entry)) used) (pa .0) width) ⌝ }
+{
+    if holds_access(words, used, pa, width) {
+        let b = *bytes;
+        *bytes = drain(memory, words, b, used);
+        return 0;
+    }
+    used
+}

@@ -1,9 +1,14 @@
 -- A Dcache line as one number of 64 bits, every bit of which belongs to a field: bit 0 valid, 1 dirty low half, 2 dirty high half, 3 to 31 the
 -- physical line number, 32 to 63 the tag. 0 is the empty line.
-use Prim.Native.Nat.{ℕ, _+_, _*_, _/_, _%_}
+use Prim.Native.Nat.{ℕ, _+_, _*_, _/_, _%_, _<_, _≤_}
+use mathlib.Core.Path.{_≡_}
 use mathlib.Core.List.{List, map}
+use lib.ListN.{length, getD}
 use Rattle.values.specs.Tests.{bit}
 use Rattle.values.specs.declared.Line.{Line}
+use Rattle.buffer.specs.Packing.{backingOf}
+use Rattle.buffer.specs.Ranges.{Fits}
+use Rattle.cache.specs.Dcache.{Side, Sent}
 
 unfoldable pub lineOf : ℕ → Line
 lineOf w = record { valid = bit w 0; tag = w / 4294967296; frame = w / 8 % 536870912; low = bit w 1; high = bit w 2 }
@@ -11,3 +16,22 @@ lineOf w = record { valid = bit w 0; tag = w / 4294967296; frame = w / 8 % 53687
 -- the lines that words stand for
 abbrev pub linesOf : List ℕ → List Line
 linesOf words = map lineOf words
+
+-- the side that the lent lists stand for
+abbrev pub sideOf : List ℕ → List ℕ → List (List ℕ) → ℕ → List ℕ → List ℕ → List ℕ → Side
+sideOf memory words bytes used lines pointers store =
+    record { cache = record { lines = linesOf lines; pointers = pointers; store = store }; backing = backingOf memory words bytes used }
+
+-- what the code leaves is this side with so many halves sent out, and the buffer fits
+pub record SentIs (memory words : List ℕ) (bytes : List (List ℕ)) (used : ℕ) (lines pointers store : List ℕ) (halves : ℕ) (s : Sent) : Type 0 where
+  pub side : sideOf memory words bytes used lines pointers store ≡ s .side
+  pub count : halves ≡ s .halves
+  pub fits : Fits memory words bytes used
+
+-- what the code asks of line i: the lists' lengths, and that the line lies inside memory
+pub record HoldsLine (memory lines store : List ℕ) (i : ℕ) : Type 0 where
+  pub lines-long : length lines ≡ 512
+  pub store-long : length store ≡ 16384
+  pub low : i < 512
+  pub inside : lineOf (getD lines i 0) .frame * 32 + 32 ≤ length memory
+  pub short : length memory ≤ 16777216

@@ -9,7 +9,7 @@ ghost use Rattle.words.specs.Words.{isWidth, Loaded, stored};
 ghost use Rattle.buffer.specs.Packing.{backingOf};
 ghost use Rattle.buffer.specs.Ranges.{Fits, Left};
 ghost use Rattle.cache.specs.Dcache as spec;
-ghost use Rattle.cache.specs.Packing.{lineOf, linesOf};
+ghost use Rattle.cache.specs.Packing.{lineOf, linesOf, sideOf, SentIs, HoldsLine};
 use values::Line;
 use values::Search;
 use values::VirtualAddress;
@@ -194,4 +194,42 @@ fn cleaned_word(w: u64) -> u64
     ensures { λ r. ⌜ lineOf r ≡ spec.cleanLine (lineOf w) ⌝ }
 {
     w / 8 * 8 + w % 2
+}
+
+// How many entries the buffer then has, and how many halves were sent out.
+pub struct Sent {
+    pub used: usize,
+    pub halves: u32,
+}
+
+// How many halves of a line are dirty.
+fn dirty_halves(l: Line) -> u32
+    ensures { λ r. ⌜ r ≡ spec.dirtyHalves l ⌝ }
+{
+    values::bit_number(l.low) + values::bit_number(l.high)
+}
+
+// Line i sends its dirty halves to the buffer and stays valid.
+pub fn clean_line(
+    memory: &mut [u8],
+    words: &mut [u64],
+    bytes: &mut [[u8; 16]],
+    used: usize,
+    lines: &mut [u64],
+    store: &[u8],
+    i: usize,
+) -> Sent
+    requires { ⌜ Fits (now memory) (now words) (now bytes) used × HoldsLine (now memory) (now lines) (now store) i ⌝ }
+    ensures { λ r.
+        ⌜ ((pointers : List ℕ) → SentIs (now (memory .exit)) (now (words .exit)) (now (bytes .exit)) (r .used) (now (lines .exit)) pointers (now (store .entry)) (r .halves)
+        (spec.cleanedAt (sideOf (now (memory .entry)) (now (words .entry)) (now (bytes .entry)) used (now (lines .entry)) pointers (now (store .entry))) (Search.At i))) ⌝ }
+{
+    let w = lines[i];
+    let l = line_of(w);
+    let n = send_halves(memory, words, bytes, used, l, store, i * 32);
+    lines[i] = cleaned_word(w);
+    Sent {
+        used: n,
+        halves: dirty_halves(l),
+    }
 }

@@ -1,0 +1,63 @@
+-- What a clean and a fill leave, by what their parts leave.
+use Prim.Native.Nat.{ℕ, _+_, _*_, _/_, _%_, _<_, _≤_}
+use native.Mathlib.Omega.{arith}
+use mathlib.Core.Bool.{true, false}
+use mathlib.Core.Path.{_≡_, refl, sym, _∙_, ap, subst}
+use mathlib.Core.List.{List}
+use lib.ListN.{length, getD, set, take, drop}
+use Rattle.values.specs.Empty.{emptyLine}
+use Rattle.values.specs.Addresses.{setOf, tagOf, physicalLine}
+use Rattle.values.specs.declared.VirtualAddress.{VirtualAddress}
+use Rattle.values.specs.declared.PhysicalAddress.{PhysicalAddress}
+use Rattle.values.specs.declared.Line.{Line}
+use Rattle.values.specs.declared.Search.the-variants.{At, Nothing}
+use Rattle.values.proofs.Maps.{map-set}
+use Rattle.buffer.specs.Buffer.{Backing, ready}
+use Rattle.buffer.specs.Packing.{backingOf}
+use Rattle.buffer.specs.Ranges.{Fits, Left}
+use Rattle.cache.specs.Dcache.{Dcache, Side, Sent, halvesSent, dirtyHalves, cleanLine, cleanedAt, copied, turned, lineRead, filled}
+use Rattle.cache.specs.Packing.{lineOf, linesOf, sideOf, SentIs}
+use Rattle.cache.proofs.Lines.{line-at}
+
+module _ (m ws : List ℕ) (bs : List (List ℕ)) (used : ℕ) (lines pointers store : List ℕ) where
+  -- a line replaced by the line that a word stands for
+  lines-with : (i w : ℕ) (l : Line) → lineOf w ≡ l → linesOf (set lines i w) ≡ set (linesOf lines) i l
+  lines-with i w l e = map-set lineOf lines i w ∙ ap (λ (x : Line). set (linesOf lines) i x) e
+
+  pub clean-left : (i : ℕ) (l : Line) → l ≡ lineOf (getD lines i 0) → (m′ ws′ : List ℕ) (bs′ : List (List ℕ)) (n : ℕ)
+      → Left m′ ws′ bs′ n (halvesSent (backingOf m ws bs used) l store (i * 32)) → (w h : ℕ) → lineOf w ≡ cleanLine (lineOf (getD lines i 0))
+      → h ≡ dirtyHalves l → SentIs m′ ws′ bs′ n (set lines i w) pointers store h (cleanedAt (sideOf m ws bs used lines pointers store) (At i))
+  unfolding cleanedAt
+  clean-left i l e m′ ws′ bs′ n o w h ew eh =
+      let q : getD (linesOf lines) i emptyLine ≡ l = line-at lines i ∙ sym e in
+      let s : linesOf (set lines i w) ≡ set (linesOf lines) i (cleanLine l) = lines-with i w (cleanLine l) (ew ∙ ap cleanLine (sym e)) in
+      rw q
+      (record {
+        side =
+            ap (λ (x : List Line). record { cache = record { lines = x; pointers = pointers; store = store }; backing = backingOf m′ ws′ bs′ n }) s
+            ∙ ap (λ (b : Backing). record { cache = record { lines = set (linesOf lines) i (cleanLine l); pointers = pointers; store = store }; backing = b }) (o .same);
+        count = eh;
+        fits = o .fits;
+      })
+
+  -- a fill: the victim's halves have gone out, the buffer is ready, the line is read
+  pub fill-left : (va : VirtualAddress) (pa : PhysicalAddress) (i : ℕ) → i ≡ setOf va * 32 + getD pointers (setOf va) 0
+      → (l : Line) → l ≡ lineOf (getD lines i 0) → (b : Backing) → b ≡ halvesSent (backingOf m ws bs used) l store (i * 32)
+      → (m′ ws′ : List ℕ) (bs′ : List (List ℕ)) (n : ℕ) → Left m′ ws′ bs′ n (ready b (physicalLine pa * 32) 32)
+      → (w h : ℕ) → lineOf w ≡ record { valid = true; tag = tagOf va; frame = physicalLine pa; low = false; high = false }
+      → h ≡ dirtyHalves l
+      → SentIs m′ ws′ bs′ n (set lines i w) (turned pointers (setOf va)) (copied store (i * 32) m′ (physicalLine pa * 32) 32) h
+      (filled (sideOf m ws bs used lines pointers store) va pa)
+  unfolding filled lineRead
+  fill-left va pa i ei l e b eb m′ ws′ bs′ n o w h ew eh =
+      let q : getD (linesOf lines) i emptyLine ≡ l = line-at lines i ∙ sym e in
+      let new : Line = record { valid = true; tag = tagOf va; frame = physicalLine pa; low = false; high = false } in
+      let s : linesOf (set lines i w) ≡ set (linesOf lines) i new = lines-with i w new ew in
+      rw (← ei, q, ← eb)
+      (record {
+        side =
+            ap (λ (x : List Line). record { cache = record { lines = x; pointers = turned pointers (setOf va); store = copied store (i * 32) m′ (physicalLine pa * 32) 32 }; backing = backingOf m′ ws′ bs′ n }) s
+            ∙ ap (λ (x : Backing). record { cache = record { lines = set (linesOf lines) i new; pointers = turned pointers (setOf va); store = copied store (i * 32) (x .memory) (physicalLine pa * 32) 32 }; backing = x }) (o .same);
+        count = eh;
+        fits = o .fits;
+      })
