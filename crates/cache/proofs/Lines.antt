@@ -15,7 +15,7 @@ use Rattle.values.specs.declared.Search.the-variants.{At, Nothing}
 use Rattle.values.proofs.Searches.{search-hit, search-on, search-end}
 use Rattle.values.proofs.Maps.{map-at, map-set, words-step}
 use Rattle.values.proofs.InPlace.{Upto, upto-end, map-constant}
-use Rattle.cache.specs.Dcache.{hasTag, marked, cleanLine}
+use Rattle.cache.specs.Dcache.{hasTag, marked, cleanLine, freshLine}
 use Rattle.cache.specs.Packing.{lineOf, linesOf}
 
 pub line-zero : lineOf 0 ≡ emptyLine
@@ -61,8 +61,10 @@ high-eighth w v e n =
   where
     odd : (x : ℕ) → (x % 2 ≡ 1 → ⊥) → (x + 1) / 2 ≡ x / 2
     odd x k = omega arith
+
     eighth : (x : ℕ) → x / 8 ≡ x / 4 / 2
     eighth x = omega arith
+
     top : (x : ℕ) → x / 4294967296 ≡ x / 8 / 536870912
     top x = omega arith
 
@@ -95,8 +97,10 @@ module _ (w offset : ℕ) where
     where
       zero-bit : (x : ℕ) → (x + 4) / 1 % 2 ≡ x / 1 % 2
       zero-bit x = omega arith
+
       one-bit : (x : ℕ) → (x + 4) / 2 % 2 ≡ x / 2 % 2
       one-bit x = omega arith
+
       two-bit : (x : ℕ) → (x / 4 % 2 ≡ 1 → ⊥) → (x + 4) / 4 % 2 ≡ 1
       two-bit x k = omega arith
 
@@ -156,6 +160,7 @@ clear q b x e h =
   where
     four : (y : ℕ) → y * 4 % 2 ≡ 0
     four y = omega arith
+
     two : (y : ℕ) → y * 2 % 2 ≡ 0
     two y = omega arith
 
@@ -170,3 +175,14 @@ clean-word w =
     let v : w / 1 % 2 ≡ w % 2 = omega arith in
     let t : x / 4294967296 ≡ w / 4294967296 = above-frame x ∙ ap (λ (y : ℕ). y / 536870912) (c .rest) ∙ sym (above-frame w) in
     rw (c .zero-bit, c .one-bit, c .two-bit, t, c .rest, v)
+
+-- ---- a line that is read
+
+pub fresh-word : (tag frame : ℕ) → frame < 536870912 → lineOf (tag * 4294967296 + frame * 8 + 1) ≡ freshLine tag frame
+unfolding lineOf
+fresh-word tag frame h =
+    let x = tag * 4294967296 + frame * 8 + 1 in
+    let c = clear (tag * 536870912 + frame) 1 x (omega arith) (omega arith) in
+    let f : x / 8 % 536870912 ≡ frame = rw (c .rest) (omega arith) in
+    let t : x / 4294967296 ≡ tag = above-frame x ∙ rw (c .rest) (omega arith) in
+    rw (c .zero-bit, c .one-bit, c .two-bit, f, t)

@@ -15,7 +15,7 @@ use Rattle.values.proofs.Maps.{map-set}
 use Rattle.buffer.specs.Buffer.{Backing, ready}
 use Rattle.buffer.specs.Packing.{backingOf}
 use Rattle.buffer.specs.Ranges.{Fits, Left}
-use Rattle.cache.specs.Dcache.{Dcache, Side, Sent, halvesSent, dirtyHalves, cleanLine, cleanedAt, copied, turned, lineRead, filled}
+use Rattle.cache.specs.Dcache.{Dcache, Side, Sent, halvesSent, dirtyHalves, cleanLine, freshLine, cleanedAt, copied, turned, lineRead, filled}
 use Rattle.cache.specs.Packing.{lineOf, linesOf, sideOf, SentIs}
 use Rattle.cache.proofs.Lines.{line-at}
 
@@ -44,14 +44,14 @@ module _ (m ws : List ℕ) (bs : List (List ℕ)) (used : ℕ) (lines pointers s
   pub fill-left : (va : VirtualAddress) (pa : PhysicalAddress) (i : ℕ) → i ≡ setOf va * 32 + getD pointers (setOf va) 0
       → (l : Line) → l ≡ lineOf (getD lines i 0) → (b : Backing) → b ≡ halvesSent (backingOf m ws bs used) l store (i * 32)
       → (m′ ws′ : List ℕ) (bs′ : List (List ℕ)) (n : ℕ) → Left m′ ws′ bs′ n (ready b (physicalLine pa * 32) 32)
-      → (w h : ℕ) → lineOf w ≡ record { valid = true; tag = tagOf va; frame = physicalLine pa; low = false; high = false }
+      → (w h : ℕ) → lineOf w ≡ freshLine (tagOf va) (physicalLine pa)
       → h ≡ dirtyHalves l
       → SentIs m′ ws′ bs′ n (set lines i w) (turned pointers (setOf va)) (copied store (i * 32) m′ (physicalLine pa * 32) 32) h
       (filled (sideOf m ws bs used lines pointers store) va pa)
   unfolding filled lineRead
   fill-left va pa i ei l e b eb m′ ws′ bs′ n o w h ew eh =
       let q : getD (linesOf lines) i emptyLine ≡ l = line-at lines i ∙ sym e in
-      let new : Line = record { valid = true; tag = tagOf va; frame = physicalLine pa; low = false; high = false } in
+      let new = freshLine (tagOf va) (physicalLine pa) in
       let s : linesOf (set lines i w) ≡ set (linesOf lines) i new = lines-with i w new ew in
       rw (← ei, q, ← eb)
       (record {

@@ -97,11 +97,15 @@ turned pointers s = set pointers s ((getD pointers s 0 + 1) % 32)
 abbrev pub copied : List ℕ → ℕ → List ℕ → ℕ → ℕ → List ℕ
 copied destination at source from n = take at destination ++ take n (drop from source) ++ drop (at + n) destination
 
+-- a valid line with no dirty half
+abbrev pub freshLine : ℕ → ℕ → Line
+freshLine tag frame = record { valid = true; tag = tag; frame = frame; low = false; high = false }
+
 -- "the line is read": into line i, from a backing in which no masked byte lies in it
 unfoldable pub lineRead : Dcache → ℕ → VirtualAddress → PhysicalAddress → List ℕ → Dcache
 lineRead c i va pa memory =
     record {
-      lines = set (c .lines) i (record { valid = true; tag = tagOf va; frame = physicalLine pa; low = false; high = false });
+      lines = set (c .lines) i (freshLine (tagOf va) (physicalLine pa));
       pointers = turned (c .pointers) (setOf va);
       store = copied (c .store) (i * 32) memory (physicalLine pa * 32) 32;
     }

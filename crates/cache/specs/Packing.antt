@@ -5,6 +5,9 @@ use mathlib.Core.Path.{_≡_}
 use mathlib.Core.List.{List, map}
 use lib.ListN.{length, getD}
 use Rattle.values.specs.Tests.{bit}
+use Rattle.values.specs.Addresses.{setOf, physicalLine}
+use Rattle.values.specs.declared.VirtualAddress.{VirtualAddress}
+use Rattle.values.specs.declared.PhysicalAddress.{PhysicalAddress}
 use Rattle.values.specs.declared.Line.{Line}
 use Rattle.buffer.specs.Packing.{backingOf}
 use Rattle.buffer.specs.Ranges.{Fits}
@@ -34,4 +37,14 @@ pub record HoldsLine (memory lines store : List ℕ) (i : ℕ) : Type 0 where
   pub store-long : length store ≡ 16384
   pub low : i < 512
   pub inside : lineOf (getD lines i 0) .frame * 32 + 32 ≤ length memory
+  pub short : length memory ≤ 16777216
+
+-- what the code asks of a fill: the lists' lengths, a pointer in range, and that the line that gives way and the line read lie inside memory
+pub record FillsLine (memory lines pointers store : List ℕ) (va : VirtualAddress) (pa : PhysicalAddress) : Type 0 where
+  pub lines-long : length lines ≡ 512
+  pub pointers-long : length pointers ≡ 16
+  pub store-long : length store ≡ 16384
+  pub pointer : getD pointers (setOf va) 0 < 32
+  pub victim-inside : lineOf (getD lines (setOf va * 32 + getD pointers (setOf va) 0) 0) .frame * 32 + 32 ≤ length memory
+  pub inside : physicalLine pa * 32 + 32 ≤ length memory
   pub short : length memory ≤ 16777216

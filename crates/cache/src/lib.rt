@@ -6,11 +6,13 @@ ghost use Prim.Native.Nat.{ℕ, _+_, _*_, _%_, _<_, _≤_};
 ghost use lib.ListN.{length, getD, set, take, drop};
 ghost use Rattle.values.specs.Empty.{emptyLine, noLines};
 ghost use Rattle.words.specs.Words.{isWidth, Loaded, stored};
+ghost use Rattle.buffer.specs.Buffer.{ready};
 ghost use Rattle.buffer.specs.Packing.{backingOf};
 ghost use Rattle.buffer.specs.Ranges.{Fits, Left};
 ghost use Rattle.cache.specs.Dcache as spec;
-ghost use Rattle.cache.specs.Packing.{lineOf, linesOf, sideOf, SentIs, HoldsLine};
+ghost use Rattle.cache.specs.Packing.{lineOf, linesOf, sideOf, SentIs, HoldsLine, FillsLine};
 use values::Line;
+use values::PhysicalAddress;
 use values::Search;
 use values::VirtualAddress;
 
@@ -132,7 +134,7 @@ pub fn empty_line(lines: &mut [u64], i: usize)
     requires { ⌜ (length (now lines) ≡ 512) × (i < 512) ⌝ }
     ensures { λ r. ⌜ linesOf (now (lines .exit)) ≡ set (linesOf (now (lines .entry))) i emptyLine ⌝ }
 {
-    lines[i] = 0;
+    lines[i] = 0u64;
 }
 
 // All lines are emptied.
@@ -186,7 +188,16 @@ pub fn send_halves(
         (spec.halvesSent (backingOf (now (memory .entry)) (now (words .entry)) (now (bytes .entry)) used) l (now (store .entry)) at) ⌝ }
 {
     let n = send_half(memory, words, bytes, used, l.low, l.frame * 2, store, at);
-    send_half(memory, words, bytes, n, l.high, l.frame * 2 + 1, store, at + 16)
+    send_half(
+        memory,
+        words,
+        bytes,
+        n,
+        l.high,
+        l.frame * 2 + 1,
+        store,
+        at + 16,
+    )
 }
 
 // A word without its dirty bits.
@@ -228,6 +239,66 @@ pub fn clean_line(
     let l = line_of(w);
     let n = send_halves(memory, words, bytes, used, l, store, i * 32);
     lines[i] = cleaned_word(w);
+    Sent {
+        used: n,
+        halves: dirty_halves(l),
+    }
+}
+
+// The word of a valid clean line.
+fn line_word(tag: u32, frame: u32) -> u64
+    requires { ⌜ frame < 536870912 ⌝ }
+    ensures { λ r. ⌜ lineOf r ≡ spec.freshLine tag frame ⌝ }
+{
+    (tag as u64) * 4294967296 + (frame as u64) * 8 + 1
+}
+
+// A line gives way: its dirty halves go to the buffer, and the buffer is drained if an entry masks a byte of the frame to be read.
+fn give_way(
+    memory: &mut [u8],
+    words: &mut [u64],
+    bytes: &mut [[u8; 16]; 8],
+    used: usize,
+    l: Line,
+    store: &[u8],
+    at: usize,
+    frame: u32,
+) -> usize
+    requires { ⌜ Fits (now memory) (now words) (now bytes) used × (l .frame * 32 + 32 ≤ length (now memory)) × (length (now memory) ≤ 16777216) × (at + 32 ≤ length (now store)) ⌝ }
+    ensures { λ r.
+        ⌜ Left (now (memory .exit)) (now (words .exit)) (now (bytes .exit)) r
+        (ready (spec.halvesSent (backingOf (now (memory .entry)) (now (words .entry)) (now (bytes .entry)) used) l (now (store .entry)) at) (frame * 32) 32) ⌝ }
+{
+    let n = send_halves(memory, words, bytes, used, l, store, at);
+    buffer::ready_line(memory, words, bytes, n, frame)
+}
+
+// A load's miss fills a line: the one at the set's pointer gives way, the pointer steps, the line is read.
+pub fn fill(
+    memory: &mut [u8],
+    words: &mut [u64],
+    bytes: &mut [[u8; 16]; 8],
+    used: usize,
+    lines: &mut [u64],
+    pointers: &mut [u32],
+    store: &mut [u8],
+    va: VirtualAddress,
+    pa: PhysicalAddress,
+) -> Sent
+    requires { ⌜ Fits (now memory) (now words) (now bytes) used × FillsLine (now memory) (now lines) (now pointers) (now store) va pa ⌝ }
+    ensures { λ r.
+        ⌜ SentIs (now (memory .exit)) (now (words .exit)) (now (bytes .exit)) (r .used) (now (lines .exit)) (now (pointers .exit)) (now (store .exit)) (r .halves)
+        (spec.filled (sideOf (now (memory .entry)) (now (words .entry)) (now (bytes .entry)) used (now (lines .entry)) (now (pointers .entry)) (now (store .entry))) va pa) ⌝ }
+{
+    let s = (va.0 / 32 % 16) as usize;
+    let p = pointers[s];
+    let i = s * 32 + p as usize;
+    let l = line_of(lines[i]);
+    let frame = pa.0 / 32;
+    let n = give_way(memory, words, bytes, used, l, store, i * 32, frame);
+    pointers[s] = (p + 1) % 32;
+    lines[i] = line_word(va.0 / 512, frame);
+    read_line(store, i * 32, memory, (frame * 32) as usize);
     Sent {
         used: n,
         halves: dirty_halves(l),

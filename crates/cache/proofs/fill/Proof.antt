@@ -1,0 +1,166 @@
+use Rattle.cache.proofs.Sending.{fill-left}
+use mathlib.Core.Path.{refl}
+use native.Mathlib.Omega.{arith}
+use denote.Ref.{now}
+use Prim.Native.Nat.{_+_, _*_, _/_, _%_}
+use lib.ListN.{getD}
+use borrow.Author.Needs.{needs}
+use Rattle.cache.proofs.fill.Statement.{statement}
+use Rattle.cache.proofs.fill.Tie as tie
+use Rattle.cache.proofs.fill.Reads as reads
+use Rattle.cache.proofs.fill.Lts as lts
+use Rattle.cache.proofs.dirty_halves.Reads as dirty-halves-reads
+use Rattle.cache.proofs.give_way.Reads as give-way-reads
+use Rattle.cache.proofs.line_of.Reads as line-of-reads
+use Rattle.cache.proofs.line_word.Reads as line-word-reads
+use Rattle.cache.proofs.read_line.Reads as read-line-reads
+
+-- src/lib.rt:284:13
+cast-s : tie.Need-cast-s
+cast-s c = search needs
+
+-- src/lib.rt:285:13
+mul-p : tie.Need-mul-p
+mul-p c = search needs
+
+-- src/lib.rt:285:13
+slice-read-p : tie.Need-slice-read-p
+slice-read-p c = search needs
+
+-- src/lib.rt:286:13
+mul-i : tie.Need-mul-i
+mul-i c = search needs
+
+-- src/lib.rt:286:22
+cast-i : tie.Need-cast-i
+cast-i c = search needs
+
+-- src/lib.rt:286:13
+add-i : tie.Need-add-i
+add-i c = search needs
+
+-- src/lib.rt:287:21
+mul-line-of : tie.Need-mul-line-of
+mul-line-of c = search needs
+
+-- src/lib.rt:287:21
+slice-read-line-of : tie.Need-slice-read-line-of
+slice-read-line-of c = search needs
+
+-- src/lib.rt:287:9
+line-of-requires : tie.Need-line-of-requires
+line-of-requires c κs = search needs
+
+-- src/lib.rt:289:60
+mul-give-way : tie.Need-mul-give-way
+mul-give-way c = search needs
+
+-- src/lib.rt:289:9
+give-way-requires : tie.Need-give-way-requires
+give-way-requires c κs = let k = c .before .before .before .before .before .before .before .before .before .before .before .before .before .before .pre .1 in
+    (c .before .before .before .before .before .before .before .before .before .before .before .before .before .before .pre .0, rw (c .before .before .before .before .before .line-of .ensures) (k .victim-inside), k .short, omega (arith, k .pointer, k .store-long))
+
+-- src/lib.rt:290:20
+add-pointers : tie.Need-add-pointers
+add-pointers c = search needs
+
+-- src/lib.rt:290:5
+mul-pointers : tie.Need-mul-pointers
+mul-pointers c = search needs
+
+-- src/lib.rt:290:5
+slice-write-pointers : tie.Need-slice-write-pointers
+slice-write-pointers c = search needs
+
+-- src/lib.rt:291:16
+line-word-requires : tie.Need-line-word-requires
+line-word-requires c κs = search needs
+
+-- src/lib.rt:291:5
+mul-lines : tie.Need-mul-lines
+mul-lines c = search needs
+
+-- src/lib.rt:291:5
+slice-write-lines : tie.Need-slice-write-lines
+slice-write-lines c = search needs
+
+-- src/lib.rt:292:22
+mul-read-line : tie.Need-mul-read-line
+mul-read-line c = search needs
+
+-- src/lib.rt:292:39
+mul-read-line-2 : tie.Need-mul-read-line-2
+mul-read-line-2 c = search needs
+
+-- src/lib.rt:292:38
+cast-read-line : tie.Need-cast-read-line
+cast-read-line c = search needs
+
+-- src/lib.rt:292:5
+read-line-requires : tie.Need-read-line-requires
+read-line-requires c κs = search needs
+
+-- src/lib.rt:295:17
+dirty-halves-requires : tie.Need-dirty-halves-requires
+dirty-halves-requires c κs = search needs
+
+-- src/lib.rt:268:1
+same-length : tie.Need-same-length
+same-length c = search needs
+
+-- src/lib.rt:268:1
+same-length-2 : tie.Need-same-length-2
+same-length-2 c = search needs
+
+-- src/lib.rt:268:1
+same-length-3 : tie.Need-same-length-3
+same-length-3 c = search needs
+
+-- src/lib.rt:268:1
+same-length-4 : tie.Need-same-length-4
+same-length-4 c = search needs
+
+-- src/lib.rt:268:1
+same-length-5 : tie.Need-same-length-5
+same-length-5 c = search needs
+
+-- src/lib.rt:268:1
+returns : tie.Need-returns
+returns c = let a = c .before .before .before .before .before .before .before .before .before .before .before .before .before .before .before .before .before .before .before .before .before .before .before .before .before .before .before .args in
+    let ps = now (a .pointers) in
+    let i = a .va .0 / 32 % 16 * 32 + getD ps (a .va .0 / 32 % 16) 0 in
+    rw (c .before .before .before .read-line .ensures)
+    (fill-left (now (a .memory)) (now (a .words)) (now (a .bytes)) (a .used) (now (a .lines)) ps (now (a .store)) (a .va) (a .pa) i refl (c .before .before .before .before .before .before .before .before .before .before .before .before .before .before .before .before .before .before .line-of .result) (c .before .before .before .before .before .before .before .before .before .before .before .before .before .before .before .before .before .before .line-of .ensures) _ refl _ _ _ _ (c .before .before .before .before .before .before .before .before .before .before .before .before .give-way .ensures) (c .before .before .before .before .before .before .line-word .result) (c .dirty-halves .result) (c .before .before .before .before .before .before .line-word .ensures) (c .dirty-halves .ensures))
+
+pub fill-spec : {M : Type 1} → statement M
+fill-spec =
+    tie.close
+    (tie.spec
+    cast-s
+    mul-p
+    slice-read-p
+    mul-i
+    cast-i
+    add-i
+    mul-line-of
+    slice-read-line-of
+    line-of-requires
+    mul-give-way
+    give-way-requires
+    add-pointers
+    mul-pointers
+    slice-write-pointers
+    line-word-requires
+    mul-lines
+    slice-write-lines
+    mul-read-line
+    mul-read-line-2
+    cast-read-line
+    read-line-requires
+    dirty-halves-requires
+    same-length
+    same-length-2
+    same-length-3
+    same-length-4
+    same-length-5
+    returns)
