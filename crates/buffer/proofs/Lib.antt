@@ -5,3 +5,4 @@ pub mod Closing
 pub mod Meeting
 pub mod Joining
 pub mod Holding
+pub mod Below
