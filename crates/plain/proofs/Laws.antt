@@ -2,7 +2,7 @@
 use Prim.Native.Nat.{ℕ, _+_, _*_, _/_, _%_, _<_, _≤_}
 use native.Mathlib.Omega.{arith}
 use mathlib.Core.Bool.{Bool, true, false, cond}
-use mathlib.Core.Path.{_≡_, refl, sym, _∙_, ap}
+use mathlib.Core.Path.{_≡_, refl, sym, _∙_, ap, subst}
 use mathlib.Core.List.{List}
 use lib.Dec.{eqb}
 use lib.ListN.{length}
@@ -26,7 +26,7 @@ use Rattle.translation.specs.declared.Checked.the-variants.{Passed, Denied}
 use Rattle.registers.specs.Refusals.{callRefusal}
 use Rattle.registers.specs.Registers.{writtenOf}
 use Rattle.plain.specs.Plain.{Plain, PlainStepped, plainFaulted, plainReach, plainLoadAt, plainStoreAt, plainWritten, plainLoad, plainStore, plainWrite, plainDone, plainly, plainRefusal, counted}
-use Rattle.plain.specs.Code.{Kept}
+use Rattle.plain.specs.Code.{Kept, Steps}
 
 -- ---- loads and stores that pass
 
@@ -121,3 +121,13 @@ module _ (p : Plain) (c : Call) where
     pub not-refused : callRefusal c ≡ 0 → plainly p c ≡ plainDone (counted p) c
     unfolding plainly plainRefusal
     not-refused f = rw (ne-eqb (p .calls) 4294967295 e, f)
+
+-- ---- a step that ends in a fault
+
+pub fault-steps : (p : Plain) → Kept p → (x e : PlainStepped) (s t : Status) (d : ℕ) (va : VirtualAddress) → x ≡ plainFaulted p s d va → s ≡ t
+    → e ≡ plainFaulted p t d va → Steps x e
+fault-steps p k x e s t d va q r u =
+    record {
+      same = q ∙ ap (λ (y : Status). plainFaulted p y d va) r ∙ sym u;
+      kept = subst (λ (y : PlainStepped). Kept (y .plain)) (sym q) (keep-faulted p k s d va);
+    }

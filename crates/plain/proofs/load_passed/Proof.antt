@@ -1,3 +1,4 @@
+use Rattle.plain.proofs.Laws.{fault-steps}
 use Rattle.translation.specs.Faults.{fills}
 use Rattle.values.specs.declared.Status.{Status}
 use Rattle.values.specs.declared.Answer.{Answer}
@@ -52,11 +53,7 @@ returns-2 : tie.Need-returns-2
 returns-2 c = let a = c .before .before .before .before .before .before .before .before .before .before .args in
     let p = plainOf (now (a .memory)) (a .s) in
     let f : fills (a .s .registers) (a .p) ≡ true = sym (c .before .before .before .fills .ensures) ∙ c .before .before .if2 .taken in
-    let e = c .faulted .ensures (now (a .memory)) in
-    record {
-      same = e ∙ ap (λ (s : Status). plainFaulted p s (a .p .domain) (a .a .address)) (c .before .fill-status .ensures) ∙ sym (load-fill p (a .a) (a .p) (a .signed) (c .before .before .before .before .if1 .left) f);
-      kept = subst (λ (x : PlainStepped). Kept (x .plain)) (sym e) (keep-faulted p (c .before .before .before .before .before .before .before .before .before .before .pre .0) (c .before .fill-status .result) (a .p .domain) (a .a .address));
-    }
+    fault-steps p (c .before .before .before .before .before .before .before .before .before .before .pre .0) _ _ _ _ (a .p .domain) (a .a .address) (c .faulted .ensures (now (a .memory))) (c .before .fill-status .ensures) (load-fill p (a .a) (a .p) (a .signed) (c .before .before .before .before .if1 .left) f)
 
 -- src/lib.rt:112:16
 other-status-requires : tie.Need-other-status-requires
@@ -71,11 +68,7 @@ returns-3 : tie.Need-returns-3
 returns-3 c = let a = c .before .before .before .before .before .before .before .before .before .before .args in
     let p = plainOf (now (a .memory)) (a .s) in
     let f : fills (a .s .registers) (a .p) ≡ false = sym (c .before .before .before .fills .ensures) ∙ c .before .before .if2 .left in
-    let e = c .faulted2 .ensures (now (a .memory)) in
-    record {
-      same = e ∙ ap (λ (s : Status). plainFaulted p s (a .p .domain) (a .a .address)) (c .before .other-status .ensures) ∙ sym (load-other p (a .a) (a .p) (a .signed) (c .before .before .before .before .if1 .left) f);
-      kept = subst (λ (x : PlainStepped). Kept (x .plain)) (sym e) (keep-faulted p (c .before .before .before .before .before .before .before .before .before .before .pre .0) (c .before .other-status .result) (a .p .domain) (a .a .address));
-    }
+    fault-steps p (c .before .before .before .before .before .before .before .before .before .before .pre .0) _ _ _ _ (a .p .domain) (a .a .address) (c .faulted2 .ensures (now (a .memory))) (c .before .other-status .ensures) (load-other p (a .a) (a .p) (a .signed) (c .before .before .before .before .if1 .left) f)
 
 pub load-passed-spec : {M : Type 1} → statement M
 load-passed-spec =

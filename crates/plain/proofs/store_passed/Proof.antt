@@ -1,3 +1,4 @@
+use Rattle.plain.proofs.Laws.{fault-steps}
 use Rattle.translation.specs.Faults.{buffers}
 use Rattle.translation.proofs.Laws.{access-fits}
 use Rattle.values.specs.declared.Status.{Status}
@@ -73,11 +74,7 @@ returns-3 : tie.Need-returns-3
 returns-3 c = let a = c .before .before .before .before .before .before .before .before .before .before .args in
     let p = plainOf (now (a .memory)) (a .s) in
     let f : buffers (a .s .registers) (a .p) ≡ false = sym (c .before .before .before .buffers .ensures) ∙ c .before .before .if2 .left in
-    let e = c .faulted .ensures (now (a .memory)) in
-    record {
-      same = e ∙ ap (λ (s : Status). plainFaulted p s (a .p .domain) (a .a .address)) (c .before .other-status .ensures) ∙ sym (store-other p (a .a) (a .p) (a .v) (c .before .before .before .before .if1 .left) f);
-      kept = subst (λ (x : PlainStepped). Kept (x .plain)) (sym e) (keep-faulted p (c .before .before .before .before .before .before .before .before .before .before .pre .0) (c .before .other-status .result) (a .p .domain) (a .a .address));
-    }
+    fault-steps p (c .before .before .before .before .before .before .before .before .before .before .pre .0) _ _ _ _ (a .p .domain) (a .a .address) (c .faulted .ensures (now (a .memory))) (c .before .other-status .ensures) (store-other p (a .a) (a .p) (a .v) (c .before .before .before .before .if1 .left) f)
 
 pub store-passed-spec : {M : Type 1} → statement M
 store-passed-spec =
