@@ -49,7 +49,7 @@ laid-behind (x ∷ xs) m a mask p h =
     laid-behind xs (laidOne m a mask x) (a + 1) (mask / 2) p (omega arith) ∙ laid-one-other m a mask x p (omega arith)
 
 -- a bit of half a number
-half-bit : (mask i : ℕ) → bit (mask / 2) i ≡ bit mask (suc i)
+pub half-bit : (mask i : ℕ) → bit (mask / 2) i ≡ bit mask (suc i)
 half-bit mask i =
     let e : 1 + i ≡ suc i = omega arith in
     ap (λ (x : ℕ). eqb (x % 2) 1) (shr-shr mask 1 i ∙ ap (λ (k : ℕ). mask / 2 ^ k) e)

@@ -6,3 +6,4 @@ pub mod Meeting
 pub mod Joining
 pub mod Holding
 pub mod Below
+pub mod StoredBelow

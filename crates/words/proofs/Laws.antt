@@ -63,6 +63,29 @@ byte-behind zero m a v j h = refl
 byte-behind (suc n) m a v j h =
     byte-behind n (set m a (v % 256)) (a + 1) (v / 256) j (omega arith) ∙ getD-set-other m a j (v % 256) 0 (omega arith)
 
+-- a byte that is stored depends on the number alone, at any place of any list
+pub byte-in : (n : ℕ) (m l : List ℕ) (a b v j : ℕ) → j < n → a + n ≤ length m → b + n ≤ length l
+    → getD (stored n m a v) (a + j) 0 ≡ getD (stored n l b v) (b + j) 0
+unfolding stored
+byte-in zero m l a b v j h f g = absurd (omega arith)
+byte-in (suc n) m l a b v zero h f g = first m a f ∙ sym (first l b g)
+  where
+    first : (k : List ℕ) (c : ℕ) → c + suc n ≤ length k → getD (stored n (set k c (v % 256)) (c + 1) (v / 256)) (c + 0) 0 ≡ v % 256
+    first k c q =
+        let e : c + 0 ≡ c = omega arith in
+        ap (λ (i : ℕ). getD (stored n (set k c (v % 256)) (c + 1) (v / 256)) i 0) e
+        ∙ byte-before n (set k c (v % 256)) (c + 1) (v / 256) c (omega arith) ∙ getD-set-same k c (v % 256) 0 (omega arith)
+byte-in (suc n) m l a b v (suc j) h f g =
+    let m′ = set m a (v % 256) in
+    let l′ = set l b (v % 256) in
+    let em = length-set m a (v % 256) in
+    let el = length-set l b (v % 256) in
+    let x : a + suc j ≡ a + 1 + j = omega arith in
+    let y : b + suc j ≡ b + 1 + j = omega arith in
+    ap (λ (i : ℕ). getD (stored n m′ (a + 1) (v / 256)) i 0) x
+    ∙ byte-in n m′ l′ (a + 1) (b + 1) (v / 256) j (omega arith) (omega arith) (omega arith)
+    ∙ ap (λ (i : ℕ). getD (stored n l′ (b + 1) (v / 256)) i 0) (sym y)
+
 -- a load depends on its bytes alone, which may stand at different places of two lists
 pub same-bytes : (n : ℕ) (m l : List ℕ) (a b : ℕ) → ((j : ℕ) → j < n → getD m (a + j) 0 ≡ getD l (b + j) 0)
     → valueAt n m a ≡ valueAt n l b
