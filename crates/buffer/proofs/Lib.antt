@@ -7,3 +7,4 @@ pub mod Joining
 pub mod Holding
 pub mod Below
 pub mod StoredBelow
+pub mod Lengths

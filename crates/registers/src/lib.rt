@@ -9,7 +9,7 @@ use values::Registers;
 use values::Transfer;
 
 // The bits of a control write that are kept.
-fn kept(v: u32) -> u32
+pub fn kept(v: u32) -> u32
     ensures { λ r. ⌜ r ≡ control.kept v ⌝ }
 {
     v % 16 + v / 256 % 4 * 256 + v / 4096 % 2 * 4096

@@ -1,2 +1,4 @@
 pub mod Machine
 pub mod Soundness
+pub mod Meaning
+pub mod Formed

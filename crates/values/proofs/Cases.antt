@@ -29,6 +29,10 @@ pub and-no : (a b : Bool) → a ≡ true → (a && b) ≡ false → b ≡ false
 and-no true b p e = e
 and-no false b p e = clash {b = false} p refl
 
+pub and-false : (a b : Bool) → b ≡ false → (a && b) ≡ false
+and-false true b e = e
+and-false false b e = refl
+
 pub or-left : (a b : Bool) → a ≡ true → (a || b) ≡ true
 or-left a b p = rw p
 

@@ -4,3 +4,6 @@ pub mod InPlace
 pub mod Maps
 pub mod Toward
 pub mod Anys
+pub mod Alls
+pub mod Sums
+pub mod Firsts

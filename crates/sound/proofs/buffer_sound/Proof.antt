@@ -1,0 +1,91 @@
+use native.Mathlib.Omega.{arith}
+use Prim.Native.Nat.{ℕ, _-_, _≤_}
+use mathlib.Core.Path.{_≡_, refl, sym, _∙_, subst}
+use denote.Ref.{now}
+use borrow.Author.Needs.{needs}
+use Rattle.sound.proofs.Slots.{Held, held-none, held-on, too-many, places-held, place-bad}
+use Rattle.sound.proofs.buffer_sound.Statement.{statement}
+use Rattle.sound.proofs.buffer_sound.Tie as tie
+use Rattle.sound.proofs.buffer_sound.Reads as reads
+use Rattle.sound.proofs.buffer_sound.Lts as lts
+use Rattle.sound.proofs.place_sound.Reads as place-sound-reads
+
+abbrev Inv-loop : tie.InvT-loop
+Inv-loop words bytes used n i₀ i = (i ≤ 8) × Held n used words bytes i
+
+abbrev μ-loop : tie.MeasureT-loop
+μ-loop words bytes used n i₀ i = 8 - i
+
+-- src/lib.rt:310:9
+returns : tie.Need-returns Inv-loop μ-loop
+returns c = let a = c .before .before .args in sym (too-many (a .n) (a .used) (now (a .words)) (now (a .bytes)) (c .if1 .taken))
+
+-- src/lib.rt:313:5
+loop-holds : tie.Need-loop-holds Inv-loop μ-loop
+loop-holds c = let a = c .before .before .args in (search needs, held-none (a .n) (a .used) (now (a .words)) (now (a .bytes)))
+
+-- src/lib.rt:314:24
+mul-place-sound : tie.Need-mul-place-sound Inv-loop μ-loop
+mul-place-sound c = search needs
+
+-- src/lib.rt:314:24
+shared-slice-read-place-sound : tie.Need-shared-slice-read-place-sound Inv-loop μ-loop
+shared-slice-read-place-sound c = search needs
+
+-- src/lib.rt:314:34
+mul-place-sound-2 : tie.Need-mul-place-sound-2 Inv-loop μ-loop
+mul-place-sound-2 c = search needs
+
+-- src/lib.rt:314:34
+shared-slice-copy-out-place-sound : tie.Need-shared-slice-copy-out-place-sound Inv-loop μ-loop
+shared-slice-copy-out-place-sound c = search needs
+
+-- src/lib.rt:314:12
+place-sound-requires : tie.Need-place-sound-requires Inv-loop μ-loop
+place-sound-requires c κs = search needs
+
+-- src/lib.rt:315:13
+add-i : tie.Need-add-i Inv-loop μ-loop
+add-i c = search needs
+
+-- src/lib.rt:313:5
+loop-less : tie.Need-loop-less Inv-loop μ-loop
+loop-less c = search needs
+
+-- src/lib.rt:313:5
+loop-again : tie.Need-loop-again Inv-loop μ-loop
+loop-again c = let a = c .before .before .before .before .before .before .before .before .args in
+    let l = c .before .before .before .before .before .loop in
+    (omega arith, held-on (a .n) (a .used) (now (a .words)) (now (a .bytes)) (l .i) (l .inv .1) (sym (c .before .place-sound .ensures) ∙ c .if2 .taken))
+
+-- src/lib.rt:317:13
+returns-2 : tie.Need-returns-2 Inv-loop μ-loop
+returns-2 c = let a = c .before .before .before .before .before .before .before .before .args in
+    let l = c .before .before .before .before .before .loop in
+    sym (place-bad (a .n) (a .used) (now (a .words)) (now (a .bytes)) (c .before .before .before .before .before .before .before .before .pre .0) (c .before .before .before .before .before .before .before .before .pre .1) (c .before .before .before .before .before .before .if1 .left) (l .i) (omega arith) (sym (c .before .place-sound .ensures) ∙ c .if2 .left))
+
+-- src/lib.rt:305:1
+returns-3 : tie.Need-returns-3 Inv-loop μ-loop
+returns-3 c = let a = c .before .before .before .before .args in
+    let l = c .before .loop in
+    let e : l .i ≡ 8 = omega arith in
+    sym (places-held (a .n) (a .used) (now (a .words)) (now (a .bytes)) (c .before .before .before .before .pre .0) (c .before .before .before .before .pre .1) (c .before .before .if1 .left) (subst (λ (k : ℕ). Held (a .n) (a .used) (now (a .words)) (now (a .bytes)) k) e (l .inv .1)))
+
+pub buffer-sound-spec : {M : Type 1} → statement M
+buffer-sound-spec =
+    tie.close
+    (tie.spec
+    Inv-loop
+    μ-loop
+    returns
+    loop-holds
+    mul-place-sound
+    shared-slice-read-place-sound
+    mul-place-sound-2
+    shared-slice-copy-out-place-sound
+    place-sound-requires
+    add-i
+    loop-less
+    loop-again
+    returns-2
+    returns-3)

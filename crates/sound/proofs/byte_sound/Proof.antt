@@ -1,0 +1,23 @@
+use native.Mathlib.Omega.{arith}
+use Prim.Native.Nat.{ℕ, _+_, _-_, _*_, _≤_}
+use mathlib.Core.Path.{_≡_, refl, sym, _∙_}
+use lib.ListN.{drop}
+use denote.Ref.{now}
+use borrow.Author.Needs.{needs}
+use Rattle.sound.specs.Soundness.{zeroOutside}
+use Rattle.sound.proofs.Slots.{byte-masked, byte-outside}
+use Rattle.sound.proofs.byte_sound.Statement.{statement}
+use Rattle.sound.proofs.byte_sound.Tie as tie
+use Rattle.sound.proofs.byte_sound.Reads as reads
+use Rattle.sound.proofs.byte_sound.Lts as lts
+
+-- src/lib.rt:245:9
+returns : tie.Need-returns
+returns c = let a = c .before .args in sym (byte-masked (a .mask) (a .x) (c .if1 .taken))
+
+-- src/lib.rt:241:1
+returns-2 : tie.Need-returns-2
+returns-2 c = let a = c .before .args in sym (byte-outside (a .mask) (a .x) (c .if1 .left))
+
+pub byte-sound-spec : {M : Type 1} → statement M
+byte-sound-spec = tie.close (tie.spec returns returns-2)

@@ -1,0 +1,84 @@
+use native.Mathlib.Omega.{arith}
+use Prim.Native.Nat.{ℕ, _+_, _-_, _*_, _/_, _%_, _≤_}
+use mathlib.Core.Path.{_≡_, refl, sym, _∙_}
+use denote.Ref.{now}
+use borrow.Author.Needs.{needs}
+use lib.ListN.{length, getD, drop}
+use Rattle.values.specs.Tests.{all, sum}
+use Rattle.values.specs.Empty.{emptyLine, emptyEntry}
+use Rattle.cache.specs.Dcache.{dirtyHalves}
+use Rattle.cache.specs.Packing.{lineOf, linesOf}
+use Rattle.cache.proofs.Lines.{line-zero}
+use Rattle.values.proofs.Alls.{words-no, words-on, words-end, sum-on, sum-end}
+use Rattle.tlb.specs.Packing.{entryOf, entriesOf}
+use Rattle.sound.specs.Soundness.{entrySound}
+use Rattle.tlb.proofs.Packing.{entry-zero}
+use Rattle.sound.proofs.entries_sound.Statement.{statement}
+use Rattle.sound.proofs.entries_sound.Tie as tie
+use Rattle.sound.proofs.entries_sound.Reads as reads
+use Rattle.sound.proofs.entries_sound.Lts as lts
+use Rattle.sound.proofs.entry_sound.Reads as entry-sound-reads
+
+abbrev Inv-loop : tie.InvT-loop
+Inv-loop entries i₀ i = (i ≤ length entries) × (all entrySound (drop i (entriesOf entries)) ≡ all entrySound (entriesOf entries))
+
+abbrev μ-loop : tie.MeasureT-loop
+μ-loop entries i₀ i = length entries - i
+
+-- src/lib.rt:124:5
+loop-holds : tie.Need-loop-holds Inv-loop μ-loop
+loop-holds c = (omega arith, refl)
+
+-- src/lib.rt:125:24
+mul-entry-sound : tie.Need-mul-entry-sound Inv-loop μ-loop
+mul-entry-sound c = search needs
+
+-- src/lib.rt:125:24
+shared-slice-read-entry-sound : tie.Need-shared-slice-read-entry-sound Inv-loop μ-loop
+shared-slice-read-entry-sound c = search needs
+
+-- src/lib.rt:125:12
+entry-sound-requires : tie.Need-entry-sound-requires Inv-loop μ-loop
+entry-sound-requires c κs = search needs
+
+-- src/lib.rt:126:13
+add-i : tie.Need-add-i Inv-loop μ-loop
+add-i c = search needs
+
+-- src/lib.rt:124:5
+loop-less : tie.Need-loop-less Inv-loop μ-loop
+loop-less c = search needs
+
+-- src/lib.rt:124:5
+loop-again : tie.Need-loop-again Inv-loop μ-loop
+loop-again c = let a = c .before .before .before .before .before .before .args in
+    let l = c .before .before .before .before .loop in
+    (omega arith, sym (words-on entrySound entryOf emptyEntry entry-zero (now (a .entries)) (l .i) (omega arith) (sym (c .before .entry-sound .ensures) ∙ c .if1 .taken)) ∙ l .inv .1)
+
+-- src/lib.rt:128:13
+returns : tie.Need-returns Inv-loop μ-loop
+returns c = let a = c .before .before .before .before .before .before .args in
+    let l = c .before .before .before .before .loop in
+    sym (words-no entrySound entryOf emptyEntry entry-zero (now (a .entries)) (l .i) (omega arith) (sym (c .before .entry-sound .ensures) ∙ c .if1 .left)) ∙ l .inv .1
+
+-- src/lib.rt:120:1
+returns-2 : tie.Need-returns-2 Inv-loop μ-loop
+returns-2 c = let a = c .before .before .before .args in
+    let l = c .before .loop in
+    sym (words-end entrySound entryOf emptyEntry entry-zero (now (a .entries)) (l .i) (omega arith)) ∙ l .inv .1
+
+pub entries-sound-spec : {M : Type 1} → statement M
+entries-sound-spec =
+    tie.close
+    (tie.spec
+    Inv-loop
+    μ-loop
+    loop-holds
+    mul-entry-sound
+    shared-slice-read-entry-sound
+    entry-sound-requires
+    add-i
+    loop-less
+    loop-again
+    returns
+    returns-2)

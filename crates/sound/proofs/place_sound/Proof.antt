@@ -1,0 +1,30 @@
+use native.Mathlib.Omega.{arith}
+use Prim.Native.Nat.{ℕ, _-_, _≤_}
+use mathlib.Core.Path.{_≡_, refl, sym, _∙_, subst}
+use denote.Ref.{now}
+use borrow.Author.Needs.{needs}
+use Rattle.sound.proofs.place_sound.Statement.{statement}
+use Rattle.sound.proofs.place_sound.Tie as tie
+use Rattle.sound.proofs.place_sound.Reads as reads
+use Rattle.sound.proofs.place_sound.Lts as lts
+use Rattle.sound.proofs.slot_empty.Reads as slot-empty-reads
+use Rattle.sound.proofs.slot_sound.Reads as slot-sound-reads
+
+-- src/lib.rt:299:9
+slot-sound-requires : tie.Need-slot-sound-requires
+slot-sound-requires c κs = search needs
+
+-- src/lib.rt:299:9
+returns : tie.Need-returns
+returns c = rw (c .before .if1 .taken) (c .slot-sound .ensures)
+
+-- src/lib.rt:301:5
+slot-empty-requires : tie.Need-slot-empty-requires
+slot-empty-requires c κs = search needs
+
+-- src/lib.rt:295:1
+returns-2 : tie.Need-returns-2
+returns-2 c = rw (c .before .if1 .left) (c .slot-empty .ensures)
+
+pub place-sound-spec : {M : Type 1} → statement M
+place-sound-spec = tie.close (tie.spec slot-sound-requires returns slot-empty-requires returns-2)

@@ -1,0 +1,74 @@
+use Rattle.sound.proofs.Clauses.{high, low}
+use native.Mathlib.Omega.{arith}
+use Prim.Native.Nat.{ℕ, _+_, _-_, _*_, _/_, _%_, _<_, _≤_}
+use mathlib.Core.Bool.{true, false}
+use mathlib.Core.Path.{_≡_, refl, sym, _∙_, ap}
+use denote.Ref.{now}
+use lib.ListN.{length, getD, drop}
+use borrow.Author.Needs.{needs}
+use Rattle.values.specs.Tests.{all}
+use Rattle.sound.specs.Soundness.{pointerSound, lineSound}
+use Rattle.values.proofs.Alls.{all-no, all-on, all-end}
+use Rattle.sound.proofs.pointers_sound.Statement.{statement}
+use Rattle.sound.proofs.pointers_sound.Tie as tie
+use Rattle.sound.proofs.pointers_sound.Reads as reads
+use Rattle.sound.proofs.pointers_sound.Lts as lts
+
+abbrev Inv-loop : tie.InvT-loop
+Inv-loop pointers i₀ i = (i ≤ length pointers) × (all pointerSound (drop i pointers) ≡ all pointerSound pointers)
+
+abbrev μ-loop : tie.MeasureT-loop
+μ-loop pointers i₀ i = length pointers - i
+
+-- src/lib.rt:19:5
+loop-holds : tie.Need-loop-holds Inv-loop μ-loop
+loop-holds c = (omega arith, refl)
+
+-- src/lib.rt:20:12
+mul-if1 : tie.Need-mul-if1 Inv-loop μ-loop
+mul-if1 c = search needs
+
+-- src/lib.rt:20:12
+shared-slice-read-if1 : tie.Need-shared-slice-read-if1 Inv-loop μ-loop
+shared-slice-read-if1 c = search needs
+
+-- src/lib.rt:21:13
+returns : tie.Need-returns Inv-loop μ-loop
+returns c = let a = c .before .before .before .before .args in
+    let l = c .before .before .before .loop in
+    sym (all-no pointerSound (now (a .pointers)) 0 (l .i) (omega arith) (high (getD (now (a .pointers)) (l .i) 0) (c .if1 .taken))) ∙ l .inv .1
+
+-- src/lib.rt:23:9
+add-i : tie.Need-add-i Inv-loop μ-loop
+add-i c = search needs
+
+-- src/lib.rt:19:5
+loop-less : tie.Need-loop-less Inv-loop μ-loop
+loop-less c = search needs
+
+-- src/lib.rt:19:5
+loop-again : tie.Need-loop-again Inv-loop μ-loop
+loop-again c = let a = c .before .before .before .before .args in
+    let l = c .before .before .before .loop in
+    (omega arith, sym (all-on pointerSound (now (a .pointers)) 0 (l .i) (omega arith) (low (getD (now (a .pointers)) (l .i) 0) (c .if1 .left))) ∙ l .inv .1)
+
+-- src/lib.rt:15:1
+returns-2 : tie.Need-returns-2 Inv-loop μ-loop
+returns-2 c = let a = c .before .before .args in
+    let l = c .before .loop in
+    sym (all-end pointerSound (now (a .pointers)) 0 (l .i) (omega arith)) ∙ l .inv .1
+
+pub pointers-sound-spec : {M : Type 1} → statement M
+pointers-sound-spec =
+    tie.close
+    (tie.spec
+    Inv-loop
+    μ-loop
+    loop-holds
+    mul-if1
+    shared-slice-read-if1
+    returns
+    add-i
+    loop-less
+    loop-again
+    returns-2)
