@@ -1,0 +1,5 @@
+pub mod Laws
+pub mod Reaches
+pub mod Loads
+pub mod Stores
+pub mod SoundKept

@@ -1,0 +1,90 @@
+-- What the code of alignment, translation and rights leaves is what the definition says.
+use Prim.Native.Nat.{ℕ, _+_}
+use native.Mathlib.Nat.{add-zero}
+use mathlib.Core.Bool.{Bool, true, false}
+use mathlib.Core.Path.{_≡_, refl, sym, _∙_, ap}
+use mathlib.Core.List.{List}
+use Rattle.values.specs.declared.Access.{Access}
+use Rattle.values.specs.declared.Entry.{Entry}
+use Rattle.values.specs.declared.VirtualAddress.{VirtualAddress}
+use Rattle.tlb.specs.Packing.{entriesOf}
+use Rattle.translation.specs.Alignment.{cleared}
+use Rattle.translation.specs.Translation.{translation, entriesAfter, pointerAfter, missesOf, checked}
+use Rattle.translation.specs.Ranges.{CheckedRanged, CheckedIs}
+use Rattle.translation.specs.declared.Translation.{Translation}
+use Rattle.translation.specs.declared.Checked.{Checked}
+use Rattle.access.specs.declared.Small.{Small}
+use Rattle.access.specs.declared.Reached.{Reached}
+use Rattle.sound.specs.Machine.{Machine}
+use Rattle.access.specs.Access.{Reach, translate, committed, reach, load, loadAt, store, storeAt}
+use Rattle.access.specs.Code.{Lists, machineOf, reachOf, Reaches, SideReady, CleanReady}
+
+-- the small parts once TLB and misses have changed
+abbrev pub committedSmall : Small → ℕ → ℕ → Small
+committedSmall s pointer misses =
+    record {
+      cp15 = record { registers = s .cp15 .registers; pointer = pointer };
+      counts = record {
+        calls = s .counts .calls;
+        misses = s .counts .misses + misses;
+        hits = s .counts .hits;
+        fills = s .counts .fills;
+        halves = s .counts .halves;
+      };
+      used = s .used;
+    }
+
+module _ (s : Small) (a : Access) (store : Bool) (va : VirtualAddress) (t : Translation) (pointer misses : ℕ) (small : Small) (x : Checked)
+    (f : va ≡ cleared a) (h : small ≡ committedSmall s pointer misses)
+    (y : CheckedIs va x (checked (s .cp15 .registers) (a .privileged) store va t)) where
+  pub translated-left : (l : Lists) (es : List ℕ) (fs : List ℕ) (n : ℕ) (m : List ℕ) → l .memory ≡ m
+      → t ≡ translation (entriesOf es) (s .cp15 .registers) m va
+      → entriesOf fs ≡ entriesAfter (entriesOf es) (s .cp15 .pointer) t → pointer ≡ pointerAfter (s .cp15 .pointer) t → misses ≡ missesOf t
+      → reachOf l fs n (record { small = small; checked = x }) ≡ translate (machineOf l es s n) a store
+  unfolding translate committed
+  translated-left l es fs n m e g i j k =
+      rw (h, y .same, i, j, k, g, f, ← e, add-zero (s .counts .calls), add-zero (s .counts .hits), add-zero (s .counts .fills), add-zero (s .counts .halves))
+
+  pub translated-rest : Reaches a (record { small = small; checked = x }) s
+  translated-rest =
+      record { ranged = rw f at (y .ranged); used = ap (λ (z : Small). z .used) h; hits = ap (λ (z : Small). z .counts .hits) h; fills = ap (λ (z : Small). z .counts .fills) h; halves = ap (λ (z : Small). z .counts .halves) h }
+
+-- what an access asks of the data side still holds after translation
+pub ready-kept : (a : Access) (r : Reached) (s : Small) (l : Lists) → Reaches a r s → SideReady l s → SideReady l (r .small)
+ready-kept a r s l x k =
+    record {
+      fits = rw (x .used) (k .fits);
+      lines-long = k .lines-long;
+      pointers-long = k .pointers-long;
+      store-long = k .store-long;
+      whole = k .whole;
+      short = k .short;
+      pointers-low = k .pointers-low;
+      lines-inside = k .lines-inside;
+      lines-held = k .lines-held;
+      hits = rw (x .hits) (k .hits);
+      fills = rw (x .fills) (k .fills);
+      halves = λ i h. rw (x .halves) (k .halves i h);
+    }
+
+-- and what a clean asks
+pub clean-ready : (s : Small) (l : Lists) → SideReady l s → CleanReady (l .memory) (l .words) (l .bytes) (l .lines) (l .store) s
+clean-ready s l k =
+    record {
+      fits = k .fits;
+      lines-long = k .lines-long;
+      store-long = k .store-long;
+      short = k .short;
+      lines-inside = λ i h v. k .lines-inside i h (k .lines-held i h v);
+      halves = k .halves;
+    }
+
+-- an access by what alignment, translation and rights give
+module _ (m : Machine) (a : Access) (x : Reach) (c : Checked) where
+  pub load-through : (signed : Bool) → x ≡ reach m a false → x .checked ≡ c → load m signed a ≡ loadAt (x .machine) signed a c
+  unfolding load
+  load-through signed e f = rw (← e, f)
+
+  pub store-through : (v : ℕ) → x ≡ reach m a true → x .checked ≡ c → store m a v ≡ storeAt (x .machine) a v c
+  unfolding store
+  store-through v e f = rw (← e, f)
