@@ -44,13 +44,17 @@ module _ (t : Transfer) where
 abbrev pub cleanedLine : Machine → VirtualAddress → Machine
 cleanedLine m va = let s = cleaned (m .side) va in more (withSide m (s .side)) 0 0 0 0 (s .halves)
 
+-- the buffer drained
+abbrev pub drainedAll : Machine → Machine
+drainedAll m = withBacking m (drained (m .side .backing))
+
 -- the machine after the operation, of which the value written is the virtual address; "(0,5) does nothing"
 unfoldable pub operated : Machine → Transfer → VirtualAddress → Machine
 operated m t va =
     cond (flushesDcache t) (withCache m (allFlushed (m .side .cache)))
     (cond (flushesLine t) (withCache m (lineFlushed (m .side .cache) va))
     (cond (cleansLine t) (cleanedLine m va)
-    (cond (drains t) (withBacking m (drained (m .side .backing)))
+    (cond (drains t) (drainedAll m)
     (cond (flushesTlb t) (withEntries m flushed)
     (cond (dropsEntries t) (withEntries m (dropped (m .entries) va))
     m)))))

@@ -1,0 +1,190 @@
+-- The cases of a CP15 write's operation, and what the code of each leaves.
+use Prim.Native.Nat.{ℕ, _+_, _*_, _<_, _≤_}
+use native.Mathlib.Omega.{arith}
+use native.Mathlib.Nat.{add-zero}
+use mathlib.Core.Bool.{Bool, true, false, cond, _&&_, _||_}
+use mathlib.Core.Path.{_≡_, refl, sym, _∙_, ap, subst}
+use mathlib.Core.List.{List}
+use lib.Dec.{eqb}
+use lib.ListN.{length, getD, set}
+use borrow.Author.Tests.{ne-eqb}
+use Rattle.values.specs.Empty.{emptyLine, noLines}
+use Rattle.values.specs.declared.VirtualAddress.{VirtualAddress}
+use Rattle.values.specs.declared.Registers.{Registers}
+use Rattle.values.specs.declared.Transfer.{Transfer}
+use Rattle.values.specs.declared.Search.the-variants.{At, Nothing}
+use Rattle.values.specs.declared.Answer.the-variants as answer
+use Rattle.tlb.specs.Tlb.{flushed, dropped}
+use Rattle.tlb.specs.Packing.{entriesOf}
+use Rattle.buffer.specs.Buffer.{Backing, drained}
+use Rattle.buffer.specs.Packing.{backingOf}
+use Rattle.buffer.specs.Ranges.{Left}
+use Rattle.cache.specs.Dcache.{Dcache, Side, Sent, find, lineFlushed, flushedAt, allFlushed, cleaned, cleanedAt, dirtyHalves}
+use Rattle.cache.specs.Packing.{lineOf, linesOf, sideOf, SentIs, HoldsLine}
+use Rattle.cache.proofs.Lines.{line-at}
+use Rattle.cache.proofs.Finds.{found}
+use Rattle.registers.specs.Refusals.{isPair}
+use Rattle.registers.specs.Registers.{writtenOf}
+use Rattle.sound.specs.Machine.{Machine}
+use Rattle.access.specs.declared.Small.{Small}
+use Rattle.access.specs.Access.{Stepped, withCache, withEntries}
+use Rattle.access.specs.Code.{Lists, machineOf, steppedOf, CleanReady}
+use Rattle.cp15.specs.Operations.{operated, cleanedLine, drainedAll, write}
+
+-- ---- which operation a pair asks for
+
+module _ (m : Machine) (t : Transfer) (va : VirtualAddress) where
+  module _ (e : t .register ≡ 7) where
+    pub seven-flush : (isPair t 0 7 || isPair t 0 6) ≡ true → operated m t va ≡ withCache m (allFlushed (m .side .cache))
+    unfolding operated
+    seven-flush f = rw (e, f)
+
+    module _ (f : (isPair t 0 7 || isPair t 0 6) ≡ false) where
+      pub seven-line : isPair t 1 6 ≡ true → operated m t va ≡ withCache m (lineFlushed (m .side .cache) va)
+      unfolding operated
+      seven-line g = rw (e, f, g)
+
+      module _ (g : isPair t 1 6 ≡ false) where
+        pub seven-clean : isPair t 1 10 ≡ true → operated m t va ≡ cleanedLine m va
+        unfolding operated
+        seven-clean h = rw (e, f, g, h)
+
+        module _ (h : isPair t 1 10 ≡ false) where
+          pub seven-drain : isPair t 4 10 ≡ true → operated m t va ≡ drainedAll m
+          unfolding operated
+          seven-drain i = rw (e, f, g, h, i)
+
+          pub seven-nothing : isPair t 4 10 ≡ false → operated m t va ≡ m
+          unfolding operated
+          seven-nothing i = rw (e, f, g, h, i)
+
+  module _ (e : t .register ≡ 8) where
+    pub eight-flush : (isPair t 0 7 || isPair t 0 6) ≡ true → operated m t va ≡ withEntries m flushed
+    unfolding operated
+    eight-flush f = rw (e, f)
+
+    module _ (f : (isPair t 0 7 || isPair t 0 6) ≡ false) where
+      pub eight-drop : isPair t 1 6 ≡ true → operated m t va ≡ withEntries m (dropped (m .entries) va)
+      unfolding operated
+      eight-drop g = rw (e, f, g)
+
+      pub eight-nothing : isPair t 1 6 ≡ false → operated m t va ≡ m
+      unfolding operated
+      eight-nothing g = rw (e, f, g)
+
+  pub no-operation : (t .register ≡ 7 → ⊥) → (t .register ≡ 8 → ⊥) → operated m t va ≡ m
+  unfolding operated
+  no-operation e f = rw (ne-eqb (t .register) 7 e, ne-eqb (t .register) 8 f)
+
+-- ---- what the code leaves
+
+-- the flush of one line
+module _ (ws ps st : List ℕ) (va : VirtualAddress) where
+  abbrev cache-of : List ℕ → Dcache
+  cache-of ls = record { lines = linesOf ls; pointers = ps; store = st }
+
+  pub line-flushed : (us : List ℕ) (i : ℕ) → find (linesOf ws) va ≡ At i → linesOf us ≡ set (linesOf ws) i emptyLine
+      → cache-of us ≡ lineFlushed (cache-of ws) va
+  unfolding lineFlushed flushedAt
+  line-flushed us i e f = rw (e, f)
+
+  pub none-flushed : find (linesOf ws) va ≡ Nothing → cache-of ws ≡ lineFlushed (cache-of ws) va
+  unfolding lineFlushed flushedAt
+  none-flushed e = rw e
+
+-- a line that is found can be cleaned
+pub can-clean : (memory words : List ℕ) (bytes : List (List ℕ)) (lines store : List ℕ) (s : Small) (va : VirtualAddress) (i : ℕ)
+    → CleanReady memory words bytes lines store s → find (linesOf lines) va ≡ At i → HoldsLine memory lines store i
+can-clean memory words bytes lines store s va i k e =
+    let f = found (linesOf lines) va i e in
+    record {
+      lines-long = k .lines-long;
+      store-long = k .store-long;
+      low = f .low;
+      inside = k .lines-inside i (f .low) (rw (line-at lines i) at (f .valid));
+      short = k .short;
+    }
+
+-- the small parts with more halves sent out
+abbrev pub sentSmall : Small → ℕ → ℕ → Small
+sentSmall s used halves =
+    record {
+      cp15 = s .cp15;
+      counts = record {
+        calls = s .counts .calls;
+        misses = s .counts .misses;
+        hits = s .counts .hits;
+        fills = s .counts .fills;
+        halves = s .counts .halves + halves;
+      };
+      used = used;
+    }
+
+module _ (es : List ℕ) (s : Small) (n : ℕ) (l : Lists) (va : VirtualAddress) where
+  abbrev side-of : Side
+  side-of = sideOf (l .memory) (l .words) (l .bytes) (s .used) (l .lines) (l .pointers) (l .store)
+
+  pub clean-left : (k : Lists) (i used halves : ℕ) (small : Small) → find (linesOf (l .lines)) va ≡ At i
+      → SentIs (k .memory) (k .words) (k .bytes) used (k .lines) (k .pointers) (k .store) halves (cleanedAt side-of (At i))
+      → small ≡ sentSmall s used halves → machineOf k es small n ≡ cleanedLine (machineOf l es s n) va
+  unfolding cleaned
+  clean-left k i used halves small e f g =
+      rw (g, f .count, e, add-zero (s .counts .calls), add-zero (s .counts .misses), add-zero (s .counts .hits), add-zero (s .counts .fills))
+      (ap made (f .side))
+    where
+      made : Side → Machine
+      made t =
+          record {
+            cp15 = s .cp15;
+            entries = entriesOf es;
+            side = t;
+            counts = sentSmall s used (cleanedAt side-of (At i) .halves) .counts;
+            size = n;
+          }
+
+  pub none-clean : find (linesOf (l .lines)) va ≡ Nothing → machineOf l es s n ≡ cleanedLine (machineOf l es s n) va
+  unfolding cleaned cleanedAt
+  none-clean e =
+      rw (e, add-zero (s .counts .calls), add-zero (s .counts .misses), add-zero (s .counts .hits), add-zero (s .counts .fills), add-zero (s .counts .halves))
+
+-- the halves of a line that is cleaned have room in their count
+pub clean-room : (memory words : List ℕ) (bytes : List (List ℕ)) (lines store ps : List ℕ) (s : Small) (i halves : ℕ)
+    → CleanReady memory words bytes lines store s → i < 512
+    → halves ≡ cleanedAt (sideOf memory words bytes (s .used) lines ps store) (At i) .halves → s .counts .halves + halves < 4294967296
+unfolding cleanedAt
+clean-room memory words bytes lines store ps s i halves k h e = rw (e, line-at lines i) (k .halves i h)
+
+pub drain-left : (es : List ℕ) (s : Small) (n : ℕ) (l : Lists) (m ws : List ℕ) (bs : List (List ℕ))
+    → Left m ws bs 0 (drained (backingOf (l .memory) (l .words) (l .bytes) (s .used)))
+    → machineOf (record { memory = m; words = ws; bytes = bs; lines = l .lines; pointers = l .pointers; store = l .store }) es
+    (record { cp15 = s .cp15; counts = s .counts; used = 0 }) n
+    ≡ drainedAll (machineOf l es s n)
+drain-left es s n l m ws bs e =
+    ap (λ (b : Backing). record {
+      cp15 = s .cp15;
+      entries = entriesOf es;
+      side = record { cache = record { lines = linesOf (l .lines); pointers = l .pointers; store = l .store }; backing = b };
+      counts = s .counts;
+      size = n;
+    }) (e .same)
+
+-- a write, once its operation is done
+pub write-left : (es fs : List ℕ) (s u : Small) (n : ℕ) (l k : Lists) (t : Transfer) (v : ℕ) (r : Registers) (small : Small)
+    → machineOf k fs u n ≡ operated (machineOf l es s n) t (record { 0 = v }) → r ≡ writtenOf (s .cp15 .registers) (t .register) v
+    → small ≡ record { cp15 = record { registers = r; pointer = u .cp15 .pointer }; counts = u .counts; used = u .used }
+    → steppedOf k fs n (record { small = small; answer = answer.Value 0 }) ≡ write (machineOf l es s n) t v
+unfolding write
+write-left es fs s u n l k t v r small e f g = rw (g, f) (ap made e)
+  where
+    made : Machine → Stepped
+    made m =
+        record {
+          machine = record {
+            cp15 = record { registers = writtenOf (s .cp15 .registers) (t .register) v; pointer = m .cp15 .pointer };
+            entries = m .entries;
+            side = m .side;
+            counts = m .counts;
+            size = m .size;
+          };
+          answer = answer.Value 0;
+        }
