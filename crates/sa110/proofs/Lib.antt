@@ -1,0 +1,5 @@
+pub mod SoundKept
+pub mod Ready
+pub mod Runs
+pub mod Packs
+pub mod StateRefusals

@@ -1,0 +1,80 @@
+use Prim.Native.Nat.{ℕ, _-_, _≤_, _+_}
+use native.Mathlib.Omega.{arith}
+use borrow.Author.Needs.{needs}
+use mathlib.Core.Path.{_≡_, refl, sym, _∙_, ap, subst}
+use mathlib.Core.List.{List, [], map}
+use lib.ListN.{length, length-map, getD, replicate, List·getD-map}
+use Rattle.values.proofs.Toward.{Toward, toward-start}
+use Rattle.sa110.proofs.Packs.{toward-all, unpack-step, pack-step}
+use Rattle.values.proofs.Maps.{map-set}
+use Rattle.sa110.specs.State.{bytesOf}
+use Rattle.sa110.specs.declared.SlotBytes.{SlotBytes}
+use Rattle.sa110.proofs.unpacked.Statement.{statement}
+use Rattle.sa110.proofs.unpacked.Tie as tie
+use Rattle.sa110.proofs.unpacked.Reads as reads
+use Rattle.sa110.proofs.unpacked.Lts as lts
+
+abbrev Inv-loop : tie.InvT-loop
+Inv-loop slots out₀ i₀ out i = (i ≤ 8) × Toward (bytesOf slots) out₀ out i
+
+abbrev μ-loop : tie.MeasureT-loop
+μ-loop slots out₀ i₀ out i = 8 - i
+
+-- src/lib.rt:235:5
+loop-holds : tie.Need-loop-holds Inv-loop μ-loop
+loop-holds c = (omega arith, toward-start _ _)
+
+-- src/lib.rt:236:17
+mul-s : tie.Need-mul-s Inv-loop μ-loop
+mul-s c = search needs
+
+-- src/lib.rt:236:17
+array-copy-out-s : tie.Need-array-copy-out-s Inv-loop μ-loop
+array-copy-out-s c = search needs
+
+-- src/lib.rt:238:9
+mul-out : tie.Need-mul-out Inv-loop μ-loop
+mul-out c = search needs
+
+-- src/lib.rt:238:9
+array-set-from-out : tie.Need-array-set-from-out Inv-loop μ-loop
+array-set-from-out c = search needs
+
+-- src/lib.rt:239:9
+add-i : tie.Need-add-i Inv-loop μ-loop
+add-i c = search needs
+
+-- src/lib.rt:235:5
+loop-less : tie.Need-loop-less Inv-loop μ-loop
+loop-less c = search needs
+
+-- src/lib.rt:235:5
+loop-again : tie.Need-loop-again Inv-loop μ-loop
+loop-again c = let l = c .before .before .before .loop in
+    let slots = c .before .before .before .before .args .t1 in
+    let n : length slots ≡ 8 = search needs in
+    (omega arith, unpack-step slots (replicate 8 (replicate 16 0)) (l .out) (l .i) n refl (omega arith) (l .inv .1))
+
+-- src/lib.rt:230:1
+returns : tie.Need-returns Inv-loop μ-loop
+returns c = let l = c .before .loop in
+    let slots = c .before .before .args .t1 in
+    let n : length slots ≡ 8 = search needs in
+    let e : l .i ≡ 8 = omega arith in
+    toward-all (bytesOf slots) (replicate 8 (replicate 16 0)) (l .out) 8 (subst (λ (n : ℕ). Toward (bytesOf slots) (replicate 8 (replicate 16 0)) (l .out) n) e (l .inv .1)) refl (length-map slots (λ (s : SlotBytes). s .bytes) ∙ n)
+
+pub unpacked-spec : {M : Type 1} → statement M
+unpacked-spec =
+    tie.close
+    (tie.spec
+    Inv-loop
+    μ-loop
+    loop-holds
+    mul-s
+    array-copy-out-s
+    mul-out
+    array-set-from-out
+    add-i
+    loop-less
+    loop-again
+    returns)

@@ -1,0 +1,20 @@
+-- What the code of the library's calls asks of the lent lists.
+use Prim.Native.Nat.{ℕ, _*_, _<_, _≤_}
+use mathlib.Core.Path.{_≡_}
+use mathlib.Core.Bool.{true}
+use mathlib.Core.List.{List}
+use lib.ListN.{length}
+use Rattle.sound.specs.Machine.{Machine, memoryOf}
+use Rattle.sound.specs.Soundness.{sound}
+use Rattle.sound.specs.Formed.{Formed}
+
+-- a machine whose state refuses no call: refusals 1 to 4 do not hold, and the lists have their lengths
+pub record Serves (m : Machine) : Type 0 where
+  pub formed : Formed m
+  pub is-sound : sound m ≡ true
+  pub size : m .size ≡ length (memoryOf m)
+
+-- n calls fit both lists
+pub record Holds (calls answers : List ℕ) (n : ℕ) : Type 0 where
+  pub calls-hold : n * 5 ≤ length calls
+  pub answers-hold : n ≤ length answers
