@@ -1,5 +1,8 @@
 //! The proved library's exported functions, wrapped for Rust.
 
+pub mod full;
+pub mod packed;
+
 use sa110_model::Call;
 
 /// What a run of the plain machine leaves beside memory and answers.

@@ -1,10 +1,10 @@
 //! The rights table, and walks over random tables.
 
+use sa110_compare::packed::entry_word;
 use sa110_compare::{right, walk};
 use sa110_model::random::rng::{from_environment, Rng};
 use sa110_model::random::world::world;
 use sa110_model::rights::TABLE;
-use sa110_model::state::TlbEntry;
 
 #[test]
 fn rights_entries() {
@@ -15,22 +15,9 @@ fn rights_entries() {
     assert_eq!(right(u32::MAX), 255);
 }
 
-/// A TLB entry as the proved library's word.
-fn word_of(e: &TlbEntry) -> u64 {
-    let aps = (0..4).map(|k| (e.ap[k] as u64) << (2 * k)).sum::<u64>();
-    e.valid as u64
-        | (e.c as u64) << 1
-        | (e.b as u64) << 2
-        | (e.size as u64) << 3
-        | (e.domain as u64) << 8
-        | aps << 16
-        | ((e.physical_base / 4096) as u64) << 24
-        | ((e.virtual_base / 4096) as u64) << 44
-}
-
 fn expected(memory: &[u8], base: u32, va: u32) -> u64 {
     match sa110_model::walk::walk(memory, base, va).found {
-        Ok(entry) => word_of(&entry),
+        Ok(entry) => entry_word(&entry),
         Err(abort) => 2 * (abort.domain * 16 + abort.status as u32) as u64,
     }
 }

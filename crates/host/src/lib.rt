@@ -1,8 +1,14 @@
-// Functions for C and Rust: numbers and slices, each slice a pointer and a length.
+// Functions for C and Rust: numbers, structs by value, and slices, each slice a pointer and a length.
 ghost use mathlib.Core.Path.{_≡_};
+ghost use mathlib.Core.List.{List};
+ghost use Prim.Native.Nat.{ℕ};
+ghost use lib.ListN.{length};
 ghost use Rattle.plain.specs.Run.{plainRun};
 ghost use Rattle.walk.specs.Ranges.{Ranged};
 ghost use Rattle.host.specs.Exports as spec;
+use values::Counts;
+use values::Cp15;
+use values::Registers;
 use values::VirtualAddress;
 use walk::Mapping;
 
@@ -17,6 +23,27 @@ pub struct PlainRan {
     pub calls: u32,
     pub refusal: u32,
     pub made: usize,
+}
+
+// The small record: the five registers and the TLB pointer.
+#[repr(C)]
+pub struct LentRecord {
+    pub control: u32,
+    pub base: u32,
+    pub domains: u32,
+    pub fsr: u32,
+    pub far: u32,
+    pub pointer: u32,
+}
+
+// The five counts.
+#[repr(C)]
+pub struct LentCounts {
+    pub calls: u32,
+    pub misses: u32,
+    pub hits: u32,
+    pub fills: u32,
+    pub halves: u32,
 }
 
 // An entry of the rights table: 0 allowed, 1 domain fault, 2 permission fault; 255 behind its end.
@@ -71,4 +98,69 @@ pub extern "C" fn sa110_plain_run(memory: &mut [u8], calls: &[u32], answers: &mu
         refusal: r.refusal,
         made: r.made,
     }
+}
+
+// The test of soundness of a state for a memory of n bytes: 1 sound, 0 unsound, 2 where a list has another length than 32 entries, 512 lines, 16
+// pointers, 8 words of the write buffer and 8 places of its bytes.
+#[no_mangle]
+pub extern "C" fn sa110_sound(
+    cp15: LentRecord,
+    counts: LentCounts,
+    entries: &[u64],
+    lines: &[u64],
+    pointers: &[u32],
+    words: &[u64],
+    bytes: &[[u8; 16]],
+    used: usize,
+    n: usize,
+) -> u32
+    ensures { λ r.
+        ⌜ ((memory store : List ℕ) (size : ℕ) → length memory ≡ n → r ≡ spec.soundCode
+        (record { cp15 = cp15; counts = counts; entries = now (entries .entry); lines = now (lines .entry); pointers = now (pointers .entry); words = now (words .entry); bytes = now (bytes .entry); used = used })
+        memory store size) ⌝ }
+{
+    if entries.len() != 32 {
+        return 2;
+    }
+    if lines.len() != 512 {
+        return 2;
+    }
+    if pointers.len() != 16 {
+        return 2;
+    }
+    if words.len() != 8 {
+        return 2;
+    }
+    if bytes.len() != 8 {
+        return 2;
+    }
+    let registers = Registers {
+        control: cp15.control,
+        base: cp15.base,
+        domains: cp15.domains,
+        fsr: cp15.fsr,
+        far: cp15.far,
+    };
+    let small = Cp15 {
+        registers,
+        pointer: cp15.pointer,
+    };
+    let numbers = Counts {
+        calls: counts.calls,
+        misses: counts.misses,
+        hits: counts.hits,
+        fills: counts.fills,
+        halves: counts.halves,
+    };
+    values::bit_number(sound::sound(
+        small,
+        entries,
+        lines,
+        pointers,
+        words,
+        bytes,
+        used,
+        numbers,
+        n,
+    ))
 }

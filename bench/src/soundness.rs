@@ -1,0 +1,39 @@
+//! The soundness test on full caches.
+
+use crate::measure::Line;
+use sa110_compare::full::{full, is_full, Tags, TAGS};
+use sa110_compare::packed::{sound, Packed};
+use sa110_model::random::Rng;
+use sa110_model::soundness::is_sound;
+use std::hint::black_box;
+
+/// A line for each way in which the tags of a full cache lie.
+pub fn lines() -> impl Iterator<Item = Line> {
+    TAGS.into_iter().map(line)
+}
+
+fn line(tags: Tags) -> Line {
+    let machine = full(&mut Rng::new(1), tags);
+    let packed = Packed::of(&machine.state, &machine.registers);
+    let n = machine.memory.len();
+    assert!(is_full(&machine) && machine.is_sound() && sound(&packed.lent(), n) == 1);
+    let name = match tags {
+        Tags::InARow => "soundness, in a row",
+        Tags::Random => "soundness, random",
+        Tags::Apart => "soundness, apart",
+    };
+    Line {
+        name: name.to_string(),
+        library: Box::new(move |calls| {
+            for _ in 0..calls {
+                black_box(sound(&black_box(&packed).lent(), n));
+            }
+        }),
+        model: Box::new(move |calls| {
+            for _ in 0..calls {
+                let m = black_box(&machine);
+                black_box(is_sound(&m.state, &m.registers, n as u32));
+            }
+        }),
+    }
+}

@@ -1,0 +1,235 @@
+//! A state as the proved library is lent it: small structs, and lists of packed words.
+
+use sa110_model::state::{Counts, Line, PlainRegisters, Registers, Slot, State, TlbEntry};
+use sa110_model::state::{BLOCK_BYTES, BUFFER_ENTRIES, LINES, SETS, TLB_ENTRIES};
+
+/// The small record: the five registers and the TLB pointer.
+#[repr(C)]
+#[derive(Clone, Copy, Debug, Default, PartialEq, Eq)]
+pub struct LentRecord {
+    pub control: u32,
+    pub base: u32,
+    pub domains: u32,
+    pub fsr: u32,
+    pub far: u32,
+    pub pointer: u32,
+}
+
+/// The five counts.
+#[repr(C)]
+#[derive(Clone, Copy, Debug, Default, PartialEq, Eq)]
+pub struct LentCounts {
+    pub calls: u32,
+    pub misses: u32,
+    pub hits: u32,
+    pub fills: u32,
+    pub halves: u32,
+}
+
+extern "C" {
+    fn sa110_sound(
+        cp15: LentRecord,
+        counts: LentCounts,
+        entries: *const u64,
+        entries_length: usize,
+        lines: *const u64,
+        lines_length: usize,
+        pointers: *const u32,
+        pointers_length: usize,
+        words: *const u64,
+        words_length: usize,
+        bytes: *const [u8; BLOCK_BYTES],
+        bytes_length: usize,
+        used: usize,
+        n: usize,
+    ) -> u32;
+}
+
+/// What a state is lent as. The lists may have any lengths.
+#[derive(Clone, Copy, Debug, PartialEq, Eq)]
+pub struct Lent<'a> {
+    pub record: LentRecord,
+    pub counts: LentCounts,
+    pub entries: &'a [u64],
+    pub lines: &'a [u64],
+    pub pointers: &'a [u32],
+    pub words: &'a [u64],
+    pub bytes: &'a [[u8; BLOCK_BYTES]],
+    pub used: usize,
+}
+
+/// The soundness of a state for a memory of n bytes: 1 sound, 0 unsound, 2 where a list does not fit.
+#[inline]
+pub fn sound(lent: &Lent, n: usize) -> u32 {
+    unsafe {
+        sa110_sound(
+            lent.record,
+            lent.counts,
+            lent.entries.as_ptr(),
+            lent.entries.len(),
+            lent.lines.as_ptr(),
+            lent.lines.len(),
+            lent.pointers.as_ptr(),
+            lent.pointers.len(),
+            lent.words.as_ptr(),
+            lent.words.len(),
+            lent.bytes.as_ptr(),
+            lent.bytes.len(),
+            lent.used,
+            n,
+        )
+    }
+}
+
+/// A state in packed words.
+#[derive(Clone, Debug, PartialEq, Eq)]
+pub struct Packed {
+    pub record: LentRecord,
+    pub counts: LentCounts,
+    pub entries: [u64; TLB_ENTRIES],
+    pub lines: [u64; LINES],
+    pub pointers: [u32; SETS],
+    pub words: [u64; BUFFER_ENTRIES],
+    pub bytes: [[u8; BLOCK_BYTES]; BUFFER_ENTRIES],
+    pub used: usize,
+}
+
+/// A TLB entry: bit 0 valid, 1 C, 2 B, 3 to 7 size, 8 to 15 domain, 16 to 23 AP0 to AP3, 24 to 43
+/// the physical base and 44 to 63 the virtual base, both divided by 4096. Here as in the words below,
+/// bits that a field has no place for are cut off.
+pub fn entry_word(e: &TlbEntry) -> u64 {
+    let ap = |k: usize| cut(e.ap[k], 2) << (2 * k);
+    cut(e.valid, 1)
+        | cut(e.c, 1) << 1
+        | cut(e.b, 1) << 2
+        | cut(e.size, 5) << 3
+        | cut(e.domain, 8) << 8
+        | (ap(0) | ap(1) | ap(2) | ap(3)) << 16
+        | cut(e.physical_base / 4096, 20) << 24
+        | cut(e.virtual_base / 4096, 20) << 44
+}
+
+pub fn entry_of(w: u64) -> TlbEntry {
+    let ap = |k: usize| field(w, 16 + 2 * k, 2);
+    TlbEntry {
+        valid: field(w, 0, 1),
+        size: field(w, 3, 5),
+        virtual_base: field(w, 44, 20) * 4096,
+        physical_base: field(w, 24, 20) * 4096,
+        domain: field(w, 8, 8),
+        ap: [ap(0), ap(1), ap(2), ap(3)],
+        c: field(w, 1, 1),
+        b: field(w, 2, 1),
+    }
+}
+
+/// A line: bit 0 valid, 1 dirty low half, 2 dirty high half, 3 to 31 the physical line number, 32 to 63
+/// the tag.
+pub fn line_word(l: &Line) -> u64 {
+    cut(l.valid, 1)
+        | cut(l.dirty[0], 1) << 1
+        | cut(l.dirty[1], 1) << 2
+        | cut(l.frame, 29) << 3
+        | (l.tag as u64) << 32
+}
+
+pub fn line_of(w: u64) -> Line {
+    Line {
+        tag: field(w, 32, 32),
+        frame: field(w, 3, 29),
+        valid: field(w, 0, 1),
+        dirty: [field(w, 1, 1), field(w, 2, 1)],
+    }
+}
+
+/// A buffer entry without its bytes: bits 0 to 31 the mask, 32 to 63 the block number.
+pub fn slot_word(s: &Slot) -> u64 {
+    s.mask as u64 | (s.block as u64) << 32
+}
+
+pub fn slot_of(w: u64, bytes: [u8; BLOCK_BYTES]) -> Slot {
+    Slot {
+        block: field(w, 32, 32),
+        mask: field(w, 0, 32),
+        bytes,
+    }
+}
+
+/// The low bits of a number.
+fn cut(x: u32, bits: u32) -> u64 {
+    x as u64 & ((1 << bits) - 1)
+}
+
+fn field(w: u64, first: usize, bits: u32) -> u32 {
+    (w >> first & ((1 << bits) - 1)) as u32
+}
+
+impl Packed {
+    pub fn of(state: &State, registers: &Registers) -> Packed {
+        let (r, c) = (&registers.plain, &state.counts);
+        Packed {
+            record: LentRecord {
+                control: r.control,
+                base: r.table_base,
+                domains: r.domain,
+                fsr: r.fsr,
+                far: r.far,
+                pointer: registers.tlb_pointer,
+            },
+            counts: LentCounts {
+                calls: c.calls,
+                misses: c.tlb_misses,
+                hits: c.hits,
+                fills: c.fills,
+                halves: c.halves,
+            },
+            entries: std::array::from_fn(|i| entry_word(&state.tlb[i])),
+            lines: std::array::from_fn(|i| line_word(&state.cache.lines[i])),
+            pointers: state.cache.pointers,
+            words: std::array::from_fn(|i| slot_word(&state.buffer.slots[i])),
+            bytes: std::array::from_fn(|i| state.buffer.slots[i].bytes),
+            used: state.buffer.entries as usize,
+        }
+    }
+
+    /// The second model's state and record. No word holds the memory's length at the start.
+    pub fn unpacked(&self, memory_length: u32) -> (State, Registers) {
+        let (r, c) = (&self.record, &self.counts);
+        let mut state = State::ZERO;
+        state.memory_length = memory_length;
+        state.tlb = self.entries.map(entry_of);
+        state.cache.lines = self.lines.map(line_of);
+        state.cache.pointers = self.pointers;
+        state.buffer.entries = self.used.try_into().unwrap_or(u32::MAX);
+        state.buffer.slots = std::array::from_fn(|i| slot_of(self.words[i], self.bytes[i]));
+        state.counts = Counts {
+            calls: c.calls,
+            tlb_misses: c.misses,
+            hits: c.hits,
+            fills: c.fills,
+            halves: c.halves,
+        };
+        let plain = PlainRegisters {
+            control: r.control,
+            table_base: r.base,
+            domain: r.domains,
+            fsr: r.fsr,
+            far: r.far,
+        };
+        let tlb_pointer = r.pointer;
+        (state, Registers { plain, tlb_pointer })
+    }
+
+    pub fn lent(&self) -> Lent<'_> {
+        Lent {
+            record: self.record,
+            counts: self.counts,
+            entries: &self.entries,
+            lines: &self.lines,
+            pointers: &self.pointers,
+            words: &self.words,
+            bytes: &self.bytes,
+            used: self.used,
+        }
+    }
+}

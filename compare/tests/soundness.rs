@@ -1,0 +1,399 @@
+//! The proved soundness test beside the second model's clauses, on sound states and damaged ones.
+
+use sa110_compare::full::{full, is_full, TAGS};
+use sa110_compare::packed::{sound, Lent, Packed};
+use sa110_model::coverage::Unwatched;
+use sa110_model::random::damage::DAMAGES;
+use sa110_model::random::guided::{free, guided};
+use sa110_model::random::rng::{from_environment, Rng};
+use sa110_model::random::states;
+use sa110_model::rules::Rules;
+use sa110_model::soundness::{broken_clauses, is_sound, CLAUSES};
+use sa110_model::term3::Run;
+use sa110_model::Machine;
+
+/// What was compared.
+struct Tally {
+    sound: u64,
+    unsound: u64,
+    /// How often each clause alone was broken.
+    alone: [u64; CLAUSES.len()],
+    /// How often a damage of the second model was compared.
+    damages: [u64; DAMAGES.len()],
+}
+
+impl Tally {
+    fn new() -> Tally {
+        Tally {
+            sound: 0,
+            unsound: 0,
+            alone: [0; CLAUSES.len()],
+            damages: [0; DAMAGES.len()],
+        }
+    }
+
+    fn states(&self) -> u64 {
+        self.sound + self.unsound
+    }
+
+    /// Compares the two on packed words and memory of n bytes; `what` says what the state is.
+    fn compare(&mut self, packed: &Packed, n: usize, what: &dyn Fn() -> String) {
+        let (state, registers) = packed.unpacked(n as u32);
+        let proved = sound(&packed.lent(), n);
+        if is_sound(&state, &registers, n as u32) {
+            self.sound += 1;
+            assert!(
+                proved == 1,
+                "proved {proved}, model 1; memory {n} bytes; {}",
+                what()
+            );
+            return;
+        }
+        self.unsound += 1;
+        let broken = broken_clauses(&state, &registers, n as u32);
+        assert!(
+            proved == 0,
+            "proved {proved}, model 0 by {broken:?}; memory {n} bytes; {}",
+            what()
+        );
+        if let [clause] = broken[..] {
+            let at = CLAUSES.iter().position(|c| c.name == clause);
+            self.alone[at.expect("a clause")] += 1;
+        }
+    }
+
+    /// The same on a machine whose fields all fit the words.
+    fn compare_machine(&mut self, machine: &Machine, what: &dyn Fn() -> String) {
+        let n = machine.memory.len();
+        let packed =
+            packed_whole(machine).unwrap_or_else(|| panic!("a field fits no word; {}", what()));
+        self.compare(&packed, n, what);
+    }
+}
+
+/// The machine's state in words, if all its fields fit them.
+fn packed_whole(machine: &Machine) -> Option<Packed> {
+    let packed = Packed::of(&machine.state, &machine.registers);
+    let (state, registers) = packed.unpacked(machine.state.memory_length);
+    (state == *machine.state && registers == machine.registers).then_some(packed)
+}
+
+/// Flips one bit; answers where.
+fn flip_bit(p: &mut Packed, rng: &mut Rng) -> String {
+    let bit = rng.below(64);
+    let (low, byte) = (bit % 32, bit % 8);
+    let (field, bit) = match rng.below(8) {
+        0 => (change_record(p, rng, &|x| x ^ 1 << low), low),
+        1 => (change_counts(p, rng, &|x| x ^ 1 << low), low),
+        2 => (
+            change_word(&mut p.entries, "TLB entry", rng, &|x| x ^ 1 << bit),
+            bit,
+        ),
+        3 => (
+            change_word(&mut p.lines, "line", rng, &|x| x ^ 1 << bit),
+            bit,
+        ),
+        4 => (
+            change_word(&mut p.words, "buffer word", rng, &|x| x ^ 1 << bit),
+            bit,
+        ),
+        5 => (change_pointer(p, rng, &|x| x ^ 1 << low), low),
+        6 => (change_byte(p, rng, &|x| x ^ 1 << byte), byte),
+        _ => {
+            p.used ^= 1 << bit;
+            ("number of buffer entries".to_string(), bit)
+        }
+    };
+    format!("{field}, bit {bit} flipped")
+}
+
+/// Replaces one word by a random one, by zero, one or all ones, by a number near it, or by another line's; answers where.
+fn replace_word(p: &mut Packed, rng: &mut Rng) -> String {
+    let (x, shift) = (rng.draw(), rng.below(64));
+    let step = rng.below(7) as u64;
+    let x = rng.pick(&[x, x, x & 0xFFFF_FFFF, x << 32, x >> shift, 0, 1, u64::MAX]);
+    let near = |y: u64| y.wrapping_add(step).wrapping_sub(3);
+    let far = rng.percent(60);
+    let wide = |y: u64| if far { x } else { near(y) };
+    let narrow = |y: u32| wide(y as u64) as u32;
+    match rng.below(9) {
+        0 => change_record(p, rng, &narrow),
+        1 => change_counts(p, rng, &narrow),
+        2 => change_word(&mut p.entries, "TLB entry", rng, &wide),
+        3 => change_word(&mut p.lines, "line", rng, &wide),
+        4 => change_word(&mut p.words, "buffer word", rng, &wide),
+        5 => change_pointer(p, rng, &narrow),
+        6 => change_byte(p, rng, &|y| wide(y as u64) as u8),
+        7 => copy_line(p, rng),
+        _ => {
+            p.used = wide(p.used as u64) as usize;
+            "number of buffer entries".to_string()
+        }
+    }
+}
+
+fn change_record(p: &mut Packed, rng: &mut Rng, change: &dyn Fn(u32) -> u32) -> String {
+    let r = &mut p.record;
+    let (name, x) = match rng.below(6) {
+        0 => ("control", &mut r.control),
+        1 => ("table base", &mut r.base),
+        2 => ("domain values", &mut r.domains),
+        3 => ("FSR", &mut r.fsr),
+        4 => ("FAR", &mut r.far),
+        _ => ("TLB pointer", &mut r.pointer),
+    };
+    *x = change(*x);
+    name.to_string()
+}
+
+fn change_counts(p: &mut Packed, rng: &mut Rng, change: &dyn Fn(u32) -> u32) -> String {
+    let c = &mut p.counts;
+    let (name, x) = match rng.below(5) {
+        0 => ("calls", &mut c.calls),
+        1 => ("TLB misses", &mut c.misses),
+        2 => ("hits", &mut c.hits),
+        3 => ("fills", &mut c.fills),
+        _ => ("halves sent out", &mut c.halves),
+    };
+    *x = change(*x);
+    name.to_string()
+}
+
+fn change_word(
+    words: &mut [u64],
+    name: &str,
+    rng: &mut Rng,
+    change: &dyn Fn(u64) -> u64,
+) -> String {
+    let i = rng.below(words.len() as u32) as usize;
+    words[i] = change(words[i]);
+    format!("{name} {i}")
+}
+
+fn change_pointer(p: &mut Packed, rng: &mut Rng, change: &dyn Fn(u32) -> u32) -> String {
+    let i = rng.below(p.pointers.len() as u32) as usize;
+    p.pointers[i] = change(p.pointers[i]);
+    format!("pointer of set {i}")
+}
+
+fn change_byte(p: &mut Packed, rng: &mut Rng, change: &dyn Fn(u8) -> u8) -> String {
+    let (i, j) = (rng.below(8) as usize, rng.below(16) as usize);
+    p.bytes[i][j] = change(p.bytes[i][j]);
+    format!("byte {j} of buffer entry {i}")
+}
+
+/// Copies one line's tag, or the whole line, to another line, mostly of the same set.
+fn copy_line(p: &mut Packed, rng: &mut Rng) -> String {
+    let from = rng.below(512) as usize;
+    let to = if rng.percent(80) {
+        from / 32 * 32 + rng.below(32) as usize
+    } else {
+        rng.below(512) as usize
+    };
+    let tag = p.lines[from] >> 32 << 32;
+    p.lines[to] = if rng.percent(50) {
+        p.lines[from]
+    } else {
+        p.lines[to] & 0xFFFF_FFFF | tag
+    };
+    format!("line {to}, copied from line {from}")
+}
+
+/// Compares a sound machine's state, and what many damages make of it.
+fn compare_damaged(tally: &mut Tally, sound: &Machine, rng: &mut Rng, name: &str) {
+    assert!(sound.is_sound(), "{name}");
+    tally.compare_machine(sound, &|| name.to_string());
+    let n = sound.memory.len();
+    let packed = packed_whole(sound).expect("compared above");
+    for _ in 0..70 {
+        let mut p = packed.clone();
+        let what = flip_bit(&mut p, rng);
+        tally.compare(&p, n, &|| format!("{name}: {what}"));
+    }
+    for _ in 0..70 {
+        let mut p = packed.clone();
+        let what: Vec<_> = (0..rng.pick(&[1, 1, 1, 2, 3]))
+            .map(|_| replace_word(&mut p, rng))
+            .collect();
+        tally.compare(&p, n, &|| format!("{name}: {}", what.join("; ")));
+    }
+    let any = rng.below(n as u32 + 1) as usize;
+    for m in [
+        0,
+        1,
+        16,
+        31,
+        32,
+        33,
+        n / 2,
+        any,
+        n.saturating_sub(16),
+        n.saturating_sub(1),
+        n + 1,
+        n + 31,
+        n + 32,
+    ] {
+        tally.compare(&packed, m, &|| format!("{name}: memory's length"));
+    }
+    let mut damaged = sound.clone();
+    for (i, damage) in DAMAGES.iter().enumerate() {
+        damaged.state.clone_from(&sound.state);
+        damaged.registers = sound.registers;
+        if !(damage.make)(&mut damaged, rng) {
+            continue;
+        }
+        // a field wider than its place in the words is left to the second model's own tests
+        let Some(p) = packed_whole(&damaged) else {
+            continue;
+        };
+        tally.compare(&p, n, &|| {
+            format!("{name}: {} ({})", damage.name, damage.clause)
+        });
+        tally.damages[i] += 1;
+    }
+}
+
+/// Makes a run's calls, and compares the state after each fourth; answers the machine at the end.
+fn compare_run(tally: &mut Tally, run: &Run, name: &str) -> Machine {
+    let mut machine =
+        Machine::start(run.memory.clone(), run.store.clone()).expect("a served start");
+    for (i, call) in run.calls.iter().enumerate() {
+        machine.step(call, &mut Unwatched);
+        if i % 4 == 0 {
+            tally.compare_machine(&machine, &|| format!("{name}: after call {i}"));
+        }
+    }
+    machine
+}
+
+#[test]
+fn states_sound_and_damaged() {
+    let seed = from_environment("SEED", 1);
+    let runs = from_environment("RUNS", 300);
+    println!("seed {seed}, {runs} machines of each kind");
+    let mut tally = Tally::new();
+    let (mut reached, mut damaged) = (0, 0);
+    for n in 0..runs {
+        let mut rng = Rng::of_run(seed, n);
+        let length = 50 + rng.below(400) as usize;
+        let name = |kind: &str| format!("{kind} {n} of seed {seed}");
+        let mut machines = Vec::new();
+        let before = tally.states();
+        let run = free(&mut rng, length);
+        let end = compare_run(&mut tally, &run, &name("free run"));
+        machines.push((end, name("free run")));
+        let run = guided(&mut rng, length, Rules::ALL).run;
+        let end = compare_run(&mut tally, &run, &name("guided run"));
+        machines.push((end, name("guided run")));
+        reached += tally.states() - before;
+        machines.push((states::sound(&mut rng).machine, name("sound state")));
+        let tags = TAGS[n as usize % TAGS.len()];
+        let machine = full(&mut rng, tags);
+        assert!(is_full(&machine));
+        machines.push((machine, name(&format!("full cache, tags {tags:?},"))));
+        let before = tally.states();
+        for (machine, name) in &machines {
+            compare_damaged(&mut tally, machine, &mut rng, name);
+        }
+        damaged += tally.states() - before;
+    }
+    println!(
+        "states compared {}: {reached} in runs, {damaged} sound and damaged",
+        tally.states()
+    );
+    println!(
+        "sound {}, unsound {}; a clause broken alone:",
+        tally.sound, tally.unsound
+    );
+    for (clause, count) in CLAUSES.iter().zip(&tally.alone) {
+        println!("{count:>8}  {}", clause.name);
+    }
+    println!("damages of the second model whose field fits no word:");
+    for (damage, count) in DAMAGES.iter().zip(&tally.damages) {
+        if *count == 0 {
+            println!("          {}", damage.name);
+        }
+    }
+    assert!(tally.alone.iter().all(|count| *count > 0));
+}
+
+/// A list of another length is answered by 2, sound or not.
+#[test]
+fn lists_of_other_lengths() {
+    let machine = full(&mut Rng::new(1), TAGS[0]);
+    let packed = packed_whole(&machine).expect("sound");
+    let n = machine.memory.len();
+    let fits = packed.lent();
+    assert_eq!(sound(&fits, n), 1);
+    let long = [0; 513];
+    let short = [0; 17];
+    let bytes = [[0; 16]; 9];
+    for length in 0..=513 {
+        let answer = |lent: Lent| sound(&lent, n);
+        let list = &long[..length];
+        if length != 32 {
+            assert_eq!(
+                answer(Lent {
+                    entries: list,
+                    ..fits
+                }),
+                2,
+                "{length} entries"
+            );
+        }
+        if length != 512 {
+            assert_eq!(
+                answer(Lent {
+                    lines: list,
+                    ..fits
+                }),
+                2,
+                "{length} lines"
+            );
+        }
+        if length != 8 {
+            assert_eq!(
+                answer(Lent {
+                    words: list,
+                    ..fits
+                }),
+                2,
+                "{length} words"
+            );
+        }
+        if length != 16 && length <= 17 {
+            assert_eq!(
+                answer(Lent {
+                    pointers: &short[..length],
+                    ..fits
+                }),
+                2,
+                "{length} pointers"
+            );
+        }
+        if length != 8 && length <= 9 {
+            assert_eq!(
+                answer(Lent {
+                    bytes: &bytes[..length],
+                    ..fits
+                }),
+                2,
+                "{length} places of bytes"
+            );
+        }
+    }
+    // 2 goes before 0
+    let mut unsound = fits;
+    unsound.record.pointer = 32;
+    assert_eq!(sound(&unsound, n), 0);
+    assert_eq!(
+        sound(
+            &Lent {
+                lines: &[],
+                ..unsound
+            },
+            n
+        ),
+        2
+    );
+}
