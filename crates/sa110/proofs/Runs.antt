@@ -1,5 +1,5 @@
 -- The steps of a run.
-use Prim.Native.Nat.{ℕ, zero, suc, _+_, _-_, _*_, _<_, _≤_}
+use Prim.Native.Nat.{ℕ, zero, suc, _+_, _-_, _*_, _/_, _<_, _≤_, min}
 use native.Mathlib.Omega.{arith}
 use native.Mathlib.Numerals.{add-one}
 use native.Mathlib.Nat.{sub-zero}
@@ -19,9 +19,13 @@ use Rattle.access.specs.declared.Outcome.{Outcome}
 use Rattle.access.specs.Access.{Stepped}
 use Rattle.access.specs.Code.{Lists, machineOf, steppedOf}
 use Rattle.sa110.specs.Call.{served}
-use Rattle.sa110.specs.Batch.{Folded, before, folded, Left, leftBy}
+use Rattle.sa110.specs.Batch.{Folded, before, folded, Left, leftBy, run}
 use Rattle.sa110.specs.Code.{Serves, Holds}
+use Rattle.values.specs.declared.Answer.{Answer}
+use Rattle.values.specs.declared.Answer.the-variants as answer
+use Rattle.sa110.specs.Refusals.{stateRefusal}
 use Rattle.sa110.proofs.SoundKept.{Numbers, sound-kept}
+use Rattle.sa110.proofs.StateRefusals.{state-refused}
 
 -- ---- the numbers of a call
 
@@ -176,3 +180,55 @@ module _ (l₀ : Lists) (es₀ calls answers₀ : List ℕ) (s₀ : Small) (n : 
     going-end h =
         left-by answers answers₀ i (g .back) here (machineOf l es s (length (l₀ .memory))) (folded n (machineOf l₀ es₀ s₀ (length (l₀ .memory))) calls 0)
         (sym (run-end n i (take i answers) calls (machineOf l es s (length (l₀ .memory))) h) ∙ g .whole)
+
+-- ---- a run of calls that are all refused by one of 1 to 4
+
+pub record Refusing (calls answers₀ : List ℕ) (n refusal : ℕ) (answers : List ℕ) (i : ℕ) : Type 0 where
+  pub low : i ≤ n
+  pub long : length answers ≡ length answers₀
+  pub back : drop i answers ≡ drop i answers₀
+  pub whole : (m : Machine) → refusal ≡ stateRefusal m 0 → behind (take i answers) (folded (n - i) m calls i) ≡ folded n m calls 0
+
+module _ (calls answers₀ : List ℕ) (n refusal : ℕ) (r : Holds calls answers₀ n) (z : refusal ≡ 0 → ⊥) where
+  pub refusing-start : Refusing calls answers₀ n refusal answers₀ 0
+  refusing-start = record { low = omega arith; long = refl; back = refl; whole = λ m e. rw sub-zero refl }
+
+  module _ (answers : List ℕ) (i : ℕ) (g : Refusing calls answers₀ n refusal answers i) where
+    held : i ≤ length answers
+    held = omega (arith, g .low, g .long, r .answers-hold)
+
+    pub refusing-on : (a : ℕ) → i < n → isCallAt calls i ≡ true → a ≡ codeOf (answer.Refused refusal)
+        → Refusing calls answers₀ n refusal (set answers i a) (i + 1)
+    refusing-on a h t f =
+        let in-list : i < length answers = omega (arith, g .long, r .answers-hold) in
+        let p : take (i + 1) (set answers i a) ≡ take i answers ++ (codeOf (answer.Refused refusal) ∷ []) = front-more answers answers₀ i (g .back) held a in-list ∙ ap (λ (x : ℕ). take i answers ++ (x ∷ [])) f in
+        record {
+          low = omega arith;
+          long = length-set answers i a ∙ g .long;
+          back = back-more answers answers₀ i (g .back) held a;
+          whole = λ m e.
+              let st : Stepped = record { machine = m; answer = answer.Refused refusal } in
+              ap (λ (xs : List ℕ). behind xs (folded (n - (i + 1)) m calls (i + 1))) p
+              ∙ sym (run-more n i (take i answers) calls m st h t (sym (state-refused m (callAt calls i) refusal e z)))
+              ∙ g .whole m e;
+        }
+
+    module _ (m : Machine) (e : refusal ≡ stateRefusal m 0) where
+      pub refusing-stop : i < n → isCallAt calls i ≡ false
+          → _≡_ {A = Left} (record { machine = m; answers = answers; made = i }) (leftBy answers₀ (folded n m calls 0))
+      refusing-stop h t =
+          left-by answers answers₀ i (g .back) held m (folded n m calls 0) (sym (run-stop n i (take i answers) calls m h t) ∙ g .whole m e)
+
+      pub refusing-end : n ≤ i → _≡_ {A = Left} (record { machine = m; answers = answers; made = i }) (leftBy answers₀ (folded n m calls 0))
+      refusing-end h =
+          left-by answers answers₀ i (g .back) held m (folded n m calls 0) (sym (run-end n i (take i answers) calls m h) ∙ g .whole m e)
+
+-- ---- a run of as many calls as the lists hold
+
+pub run-as : (m : Machine) (list answers : List ℕ) (n : ℕ) → n ≡ min (length list / 5) (length answers)
+    → run m list answers ≡ leftBy answers (folded n m list 0)
+unfolding run
+run-as m list answers n e = rw e
+
+pub held-by : (list answers : List ℕ) (n : ℕ) → n ≡ min (length list / 5) (length answers) → Holds list answers n
+held-by list answers n e = record { calls-hold = omega arith; answers-hold = omega arith }

@@ -1,5 +1,5 @@
 -- A run of the library over a lent list of calls, five numbers each, with the answers as numbers: the fold of the step that `call` has.
-use Prim.Native.Nat.{ℕ, zero, suc, _+_}
+use Prim.Native.Nat.{ℕ, zero, suc, _+_, _/_, min}
 use mathlib.Core.Bool.{cond}
 use mathlib.Core.List.{List, [], _∷_, _++_}
 use lib.ListN.{length, drop}
@@ -33,3 +33,7 @@ pub record Left : Type 0 where
 -- the answers of the calls made stand at the front of the lent list, and the rest of it is as it was
 abbrev pub leftBy : List ℕ → Folded → Left
 leftBy answers r = record { machine = r .machine; answers = r .codes ++ drop (length (r .codes)) answers; made = length (r .codes) }
+
+-- a run: as many calls as both lists hold. The fold of `served`: a machine that 1 to 4 hold of refuses each of its calls.
+unfoldable pub run : Machine → List ℕ → List ℕ → Left
+run m list answers = leftBy answers (folded (min (length list / 5) (length answers)) m list 0)

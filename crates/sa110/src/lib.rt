@@ -1,24 +1,38 @@
 // The library's calls: what users call.
 ghost use mathlib.Core.Path.{_≡_};
-ghost use mathlib.Core.Bool.{true, false};
+ghost use mathlib.Core.Bool.{true, false, cond};
 ghost use mathlib.Core.List.{List};
-ghost use Prim.Native.Nat.{ℕ, _<_, _≤_, _+_};
+ghost use Prim.Native.Nat.{ℕ, _<_, _≤_, _+_, _*_, _/_, _%_, min};
 ghost use lib.ListN.{length};
 ghost use Rattle.rights.specs.Rights.{rightsTable};
 ghost use Rattle.registers.specs.Refusals as refused;
 ghost use Rattle.access.specs.Code.{Lists, machineOf, steppedOf, TlbReady, SideReady};
+ghost use Rattle.values.specs.Addresses.{flat};
+ghost use Rattle.values.specs.Control.{mmu};
+ghost use Rattle.values.specs.Empty.{zeroCp15};
+ghost use Rattle.walk.specs.Walk.{walk};
+ghost use Rattle.walk.specs.Ranges.{Ranged};
+ghost use Rattle.sound.specs.Machine.{Machine};
+ghost use Rattle.sound.specs.Machine as machines;
 ghost use Rattle.sound.specs.Soundness.{sound};
 ghost use Rattle.sa110.specs.Refusals.{stateRefusal};
 ghost use Rattle.sa110.specs.Call as spec;
 ghost use Rattle.sa110.specs.Batch as batch;
+ghost use Rattle.sa110.specs.Start as starts;
+ghost use Rattle.sa110.specs.Look as looks;
 ghost use Rattle.sa110.specs.Code.{Serves, Holds};
-ghost use Rattle.sa110.specs.State.{bytesOf, machineIn};
+ghost use Rattle.sa110.specs.State.{bytesOf, machineIn, calledOf, ranOf, startedOf};
 use access::Outcome;
 use access::Small;
 use values::Answer;
 use values::Call;
 use values::Counts;
 use values::Cp15;
+use values::PhysicalAddress;
+use values::Registers;
+use values::Search;
+use values::VirtualAddress;
+use walk::Mapping;
 
 // A call that is not refused.
 fn done(
@@ -221,6 +235,13 @@ pub struct State {
     pub slots: [SlotBytes; 8],
 }
 
+// What a call leaves beside the lent bytes.
+pub struct Called {
+    pub state: State,
+    pub cp15: Cp15,
+    pub answer: Answer,
+}
+
 // The bytes of the places, by themselves.
 fn unpacked(slots: [SlotBytes; 8]) -> [[u8; 16]; 8]
     ensures { λ r. ⌜ r ≡ bytesOf slots ⌝ }
@@ -295,4 +316,340 @@ fn state_refusal(state: State, cp15: Cp15, memory: &[u8], store: &[u8]) -> u32
         return 4;
     }
     3
+}
+
+// A call on a machine that refusals 1 to 4 do not hold of.
+fn serve(state: State, cp15: Cp15, memory: &mut [u8], store: &mut [u8], c: Call) -> Called
+    requires { ⌜ stateRefusal (machineIn (now memory) (now store) state cp15) 0 ≡ 0 ⌝ }
+    ensures { λ r. ⌜ calledOf (now (memory .exit)) (now (store .exit)) r ≡ spec.served (machineIn (now (memory .entry)) (now (store .entry)) state cp15) c ⌝ }
+{
+    let table = rights::table();
+    let mut entries = state.entries;
+    let mut lines = state.lines;
+    let mut pointers = state.pointers;
+    let mut words = state.words;
+    let slots = state.slots;
+    let counts = state.counts;
+    let mut bytes = unpacked(slots);
+    let small = Small {
+        cp15,
+        counts,
+        used: state.used,
+    };
+    let o = step(
+        &table,
+        memory,
+        &mut words,
+        &mut bytes,
+        &mut lines,
+        &mut pointers,
+        store,
+        &mut entries,
+        small,
+        c,
+    );
+    let t = o.small;
+    let answer = o.answer;
+    let record = t.cp15;
+    let counted = t.counts;
+    let held = packed(bytes);
+    let after = State {
+        size: state.size,
+        counts: counted,
+        used: t.used,
+        entries,
+        lines,
+        pointers,
+        words,
+        slots: held,
+    };
+    Called {
+        state: after,
+        cp15: record,
+        answer,
+    }
+}
+
+// One call: refusals 1 to 12 in document 01's order, each changing nothing.
+pub fn call(state: State, cp15: Cp15, memory: &mut [u8], store: &mut [u8], c: Call) -> Called
+    ensures { λ r. ⌜ calledOf (now (memory .exit)) (now (store .exit)) r ≡ spec.served (machineIn (now (memory .entry)) (now (store .entry)) state cp15) c ⌝ }
+{
+    let n = state_refusal(state, cp15, memory, store);
+    if n != 0 {
+        return Called {
+            state,
+            cp15,
+            answer: Answer::Refused(n),
+        };
+    }
+    serve(state, cp15, memory, store, c)
+}
+
+// How many calls of five numbers the lists of calls and answers hold.
+fn calls_held(calls: &[u32], answers: &[u64]) -> usize
+    ensures { λ r. ⌜ r ≡ min (length (now (calls .entry)) / 5) (length (now (answers .entry))) ⌝ }
+{
+    let a = calls.len() / 5;
+    let b = answers.len();
+    if a < b { a } else { b }
+}
+
+// The first n calls of a list, each refused by the number. It answers how many calls there were.
+fn refuse_calls(calls: &[u32], answers: &mut [u64], n: usize, refusal: u32) -> usize
+    requires { ⌜ Holds (now calls) (now answers) n × (refusal ≡ 0 → ⊥) ⌝ }
+    ensures { λ r.
+        ⌜ ((m : Machine) → refusal ≡ stateRefusal m 0 → _≡_ {A = batch.Left} (record { machine = m; answers = now (answers .exit); made = r })
+        (batch.leftBy (now (answers .entry)) (batch.folded n m (now (calls .entry)) 0))) ⌝ }
+{
+    let mut i: usize = 0;
+    while i < n {
+        if !trace::is_call_at(calls, i) {
+            return i;
+        }
+        answers[i] = trace::code(Answer::Refused(refusal));
+        i += 1;
+    }
+    i
+}
+
+// What a run leaves beside the lent lists.
+pub struct Ran {
+    pub state: State,
+    pub cp15: Cp15,
+    pub made: usize,
+}
+
+// The first n calls of a list on a machine that refusals 1 to 4 do not hold of.
+fn run_served(
+    state: State,
+    cp15: Cp15,
+    memory: &mut [u8],
+    store: &mut [u8],
+    calls: &[u32],
+    answers: &mut [u64],
+    n: usize,
+) -> Ran
+    requires { ⌜ (stateRefusal (machineIn (now memory) (now store) state cp15) 0 ≡ 0) × Holds (now calls) (now answers) n ⌝ }
+    ensures { λ r.
+        ⌜ ranOf (now (memory .exit)) (now (store .exit)) (now (answers .exit)) r
+        ≡ batch.leftBy (now (answers .entry)) (batch.folded n (machineIn (now (memory .entry)) (now (store .entry)) state cp15) (now (calls .entry)) 0) ⌝ }
+{
+    let table = rights::table();
+    let mut entries = state.entries;
+    let mut lines = state.lines;
+    let mut pointers = state.pointers;
+    let mut words = state.words;
+    let slots = state.slots;
+    let counts = state.counts;
+    let mut bytes = unpacked(slots);
+    let small = Small {
+        cp15,
+        counts,
+        used: state.used,
+    };
+    let f = run_calls(
+        &table,
+        memory,
+        &mut words,
+        &mut bytes,
+        &mut lines,
+        &mut pointers,
+        store,
+        &mut entries,
+        small,
+        calls,
+        answers,
+        n,
+    );
+    let t = f.small;
+    let record = t.cp15;
+    let counted = t.counts;
+    let held = packed(bytes);
+    let after = State {
+        size: state.size,
+        counts: counted,
+        used: t.used,
+        entries,
+        lines,
+        pointers,
+        words,
+        slots: held,
+    };
+    Ran {
+        state: after,
+        cp15: record,
+        made: f.made,
+    }
+}
+
+// A run over a list of calls, of five numbers each: as many as the lists of calls and answers hold, up to five numbers that are no call.
+// It is the fold of `call`; refusals 1 to 4 are tested once.
+pub fn run(
+    state: State,
+    cp15: Cp15,
+    memory: &mut [u8],
+    store: &mut [u8],
+    calls: &[u32],
+    answers: &mut [u64],
+) -> Ran
+    ensures { λ r.
+        ⌜ ranOf (now (memory .exit)) (now (store .exit)) (now (answers .exit)) r
+        ≡ batch.run (machineIn (now (memory .entry)) (now (store .entry)) state cp15) (now (calls .entry)) (now (answers .entry)) ⌝ }
+{
+    let n = calls_held(calls, answers);
+    let refusal = state_refusal(state, cp15, memory, store);
+    if refusal != 0 {
+        return Ran {
+            state,
+            cp15,
+            made: refuse_calls(calls, answers, n, refusal),
+        };
+    }
+    run_served(state, cp15, memory, store, calls, answers, n)
+}
+
+// What a start leaves: a fresh state and a record of zeros, and refusal 1 or 2, or 0.
+pub struct Started {
+    pub state: State,
+    pub cp15: Cp15,
+    pub refusal: u32,
+}
+
+// Refusals 1 and 2 of a start, or 0.
+fn start_refusal(memory: &[u8], store: &[u8]) -> u32
+    ensures { λ r. ⌜ r ≡ starts.startRefusal (now (memory .entry)) (now (store .entry)) ⌝ }
+{
+    if memory.len() % 32 != 0 {
+        return 1;
+    }
+    if 16777216 < memory.len() {
+        return 1;
+    }
+    if store.len() != 16384 {
+        return 2;
+    }
+    0
+}
+
+// A state of zeros but for the memory's length.
+fn fresh(size: usize) -> State
+    ensures { λ r. ⌜ ((memory store : List ℕ) → machineIn memory store r zeroCp15 ≡ machines.fresh size memory store) ⌝ }
+{
+    let counts = Counts {
+        calls: 0,
+        misses: 0,
+        hits: 0,
+        fills: 0,
+        halves: 0,
+    };
+    let zero = SlotBytes { bytes: [0u8; 16] };
+    let entries = [0u64; 32];
+    let lines = [0u64; 512];
+    let pointers = [0u32; 16];
+    let words = [0u64; 8];
+    let slots = [zero; 8];
+    State {
+        size,
+        counts,
+        used: 0,
+        entries,
+        lines,
+        pointers,
+        words,
+        slots,
+    }
+}
+
+// The start: a fresh state, or refusal 1 or 2 with a state all zeros. It writes to no lent bytes.
+pub fn start(memory: &[u8], store: &[u8]) -> Started
+    ensures { λ r. ⌜ startedOf (now (memory .entry)) (now (store .entry)) r ≡ starts.started (now (memory .entry)) (now (store .entry)) ⌝ }
+{
+    let registers = Registers {
+        control: 0,
+        base: 0,
+        domains: 0,
+        fsr: 0,
+        far: 0,
+    };
+    let cp15 = Cp15 {
+        registers,
+        pointer: 0,
+    };
+    let refusal = start_refusal(memory, store);
+    if refusal == 0 {
+        return Started {
+            state: fresh(memory.len()),
+            cp15,
+            refusal,
+        };
+    }
+    Started {
+        state: fresh(0),
+        cp15,
+        refusal,
+    }
+}
+
+// The 32 bytes of line i of a list of bytes.
+fn line_part(bytes: &[u8], i: usize) -> &[u8]
+    requires { ⌜ i * 32 + 32 ≤ length (now bytes) ⌝ }
+    ensures { λ r. ⌜ now r ≡ looks.lineBytes (now (bytes .entry)) i ⌝ }
+{
+    &bytes[i * 32..i * 32 + 32]
+}
+
+// The line of a physical address in memory, or an empty part outside.
+fn memory_part(memory: &[u8], pa: PhysicalAddress) -> &[u8]
+    requires { ⌜ length (now memory) % 32 ≡ 0 ⌝ }
+    ensures { λ r. ⌜ now r ≡ looks.memoryLine (now (memory .entry)) pa ⌝ }
+{
+    if (pa.0 as usize) < memory.len() {
+        return line_part(memory, (pa.0 / 32) as usize);
+    }
+    &memory[0..0]
+}
+
+// The line that a mapping gives, or an empty part.
+fn mapped_part(memory: &[u8], va: VirtualAddress, m: Mapping) -> &[u8]
+    requires { ⌜ (length (now memory) % 32 ≡ 0) × Ranged m ⌝ }
+    ensures { λ r. ⌜ now r ≡ looks.walkedLine (now (memory .entry)) va m ⌝ }
+{
+    match m {
+        Mapping::Found(e) => memory_part(memory, tlb::translated(e, va)),
+        Mapping::Failed(s, d) => &memory[0..0],
+    }
+}
+
+// The line of a virtual address in memory: by a walk past the TLB, or flat.
+fn uncached_part(memory: &[u8], r: Registers, va: VirtualAddress) -> &[u8]
+    requires { ⌜ (length (now memory) % 32 ≡ 0) × (r .base % 16384 ≡ 0) ⌝ }
+    ensures { λ x. ⌜ now x ≡ cond (mmu r) (looks.walkedLine (now (memory .entry)) va (walk (now (memory .entry)) (r .base) va)) (looks.memoryLine (now (memory .entry)) (flat va)) ⌝ }
+{
+    if values::mmu(r) {
+        let m = walk::walk(memory, r.base, va);
+        return mapped_part(memory, va, m);
+    }
+    memory_part(memory, PhysicalAddress(va.0))
+}
+
+// The 32 bytes of a virtual address's line: a part of the cache store, a part of memory, or an empty part.
+pub fn look<'a>(
+    state: State,
+    cp15: Cp15,
+    memory: &'a [u8],
+    store: &'a [u8],
+    va: VirtualAddress,
+) -> &'a [u8]
+    ensures { λ r. ⌜ now r ≡ looks.look (machineIn (now (memory .entry)) (now (store .entry)) state cp15) va ⌝ }
+{
+    if state_refusal(state, cp15, memory, store) != 0 {
+        return &store[0..0];
+    }
+    let lines = state.lines;
+    let registers = cp15.registers;
+    let found = cache::find(&lines, va);
+    match found {
+        Search::At(i) => line_part(store, i),
+        Search::Nothing => uncached_part(memory, registers, va),
+    }
 }

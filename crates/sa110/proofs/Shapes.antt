@@ -1,0 +1,149 @@
+-- The shape of a machine whose lists are arrays: their lengths, and that bytes are below 256.
+use Prim.Native.Nat.{ℕ, zero, suc, _%_, _<_, _≤_}
+use native.Mathlib.Omega.{arith}
+use native.Mathlib.Nat.{le-of-suc-le-suc, not-suc-le-zero}
+use mathlib.Core.Path.{_≡_, refl, sym, _∙_, ap, subst}
+use mathlib.Core.List.{List, [], _∷_}
+use lib.ListN.{length, length-map, getD, replicate, length-replicate, List·getD-eq-default}
+use mir.Syntax.{w8}
+use mir.Val.{Val}
+use denote.Array.{Array, each}
+use denote.Shadow.{shadow}
+use denote.Plain.{UInt}
+use denote.Laws.{Is}
+use borrow.Author.Needs.{elem-fits}
+use Rattle.values.specs.Empty.{emptySlot}
+use Rattle.values.specs.declared.Slot.{Slot}
+use Rattle.values.proofs.Cases.{case}
+use Rattle.words.specs.Words.{Bytes}
+use Rattle.tlb.specs.Packing.{entryOf}
+use Rattle.buffer.specs.Packing.{slotsOf}
+use Rattle.buffer.proofs.Slots.{slot-at, length-slots}
+use Rattle.cache.specs.Packing.{lineOf}
+use Rattle.sound.specs.Formed.{Formed}
+use Rattle.sound.proofs.Parts.{same-at}
+use Rattle.values.specs.declared.Cp15.{Cp15}
+use Rattle.values.specs.declared.Call.{Call}
+use Rattle.access.specs.declared.Outcome.{Outcome}
+use Rattle.access.specs.Access.{Stepped}
+use Rattle.sa110.specs.Refusals.{stateRefusal}
+use Rattle.sa110.specs.Call.{served}
+use Rattle.sa110.specs.Code.{Serves}
+use Rattle.sa110.specs.Batch.{Left, leftBy, folded}
+use Rattle.sa110.specs.State.{bytesOf, machineIn, calledOf, ranOf}
+use Rattle.sa110.specs.declared.State.{State}
+use Rattle.sa110.specs.declared.SlotBytes.{SlotBytes}
+use Rattle.sa110.proofs.StateRefusals.{Accepts, accepts}
+use Rattle.access.specs.declared.Small.{Small}
+use Rattle.access.specs.Code.{Lists, machineOf, steppedOf}
+
+-- what an array of bytes tells of its list
+pub record Row (xs : List ℕ) : Type 0 where
+  pub long : length xs ≡ 16
+  pub low : (j : ℕ) → getD xs j 0 < 256
+
+row-of : (xs : List ℕ) (vs : List Val) → Is (Array (UInt w8) 16) xs vs → Row xs
+row-of xs vs p = record { long = p .1 .0 .1; low = λ j. elem-fits w8 w8 xs (p .0) j (p .1 .1) tt .fits }
+
+zeros : Row (replicate 16 0)
+zeros = record { long = refl; low = λ j. rw (same-at {A = ℕ} 16 0 j) (omega arith) }
+
+-- and an array of eight of them
+pub rows-of : (xs : List (List ℕ)) (us : List Val) → shadow (each (List ℕ) (Array (UInt w8) 16 .own) xs us) → (i : ℕ) → Row (getD xs i (replicate 16 0))
+rows-of [] us p i = zeros
+rows-of (x ∷ xs) [] p i = absurd p
+rows-of (x ∷ xs) (u ∷ us) p zero = row-of x (u ∷ []) (p .0)
+rows-of (x ∷ xs) (u ∷ us) p (suc i) = rows-of xs us (p .1) i
+
+module _ (l : Lists) (es : List ℕ) (s : Small) (n : ℕ) (e : length es ≡ 32) (ls : length (l .lines) ≡ 512) (ps : length (l .pointers) ≡ 16)
+    (st : length (l .store) ≡ 16384) (sb : Bytes (l .store)) (ws : length (l .words) ≡ 8) (bs : length (l .bytes) ≡ 8)
+    (rows : (i : ℕ) → Row (getD (l .bytes) i (replicate 16 0))) (whole : length (l .memory) % 32 ≡ 0) (short : length (l .memory) ≤ 16777216)
+    (mb : Bytes (l .memory)) where
+  row-at : (i : ℕ) → Row (getD (slotsOf (l .words) (l .bytes)) i emptySlot .bytes)
+  row-at i = subst (λ (y : Slot). Row (y .bytes)) (sym (slot-at (l .words) (l .bytes) i (ws ∙ sym bs))) (rows i)
+
+  pub formed-of : Formed (machineOf l es s n)
+  formed-of =
+      record {
+        entries-long = length-map es entryOf ∙ e;
+        lines-long = length-map (l .lines) lineOf ∙ ls;
+        pointers-long = ps;
+        store-long = st;
+        store-bytes = sb;
+        slots-long = length-slots (l .words) (l .bytes) (ws ∙ sym bs) ∙ ws;
+        slot-long = λ i. row-at i .long;
+        slot-bytes = λ i j h. row-at i .low j;
+        memory-lines = whole;
+        memory-short = short;
+        memory-bytes = mb;
+      }
+
+-- ---- a state by value
+
+-- the lists of a state, with the places' bytes by themselves
+abbrev pub listsIn : List ℕ → List ℕ → State → List (List ℕ) → Lists
+listsIn memory store s bs =
+    record { memory = memory; words = s .words; bytes = bs; lines = s .lines; pointers = s .pointers; store = store }
+
+abbrev pub smallIn : State → Cp15 → Small
+smallIn s r = record { cp15 = r; counts = s .counts; used = s .used }
+
+module _ (memory store : List ℕ) (s : State) (r : Cp15) (bs : List (List ℕ)) (b : bs ≡ bytesOf (s .slots))
+    (h : stateRefusal (machineIn memory store s r) 0 ≡ 0) where
+  acc : Accepts (machineIn memory store s r)
+  acc = accepts (machineIn memory store s r) h
+
+  pub serves-of : length (s .entries) ≡ 32 → length (s .lines) ≡ 512 → length (s .pointers) ≡ 16 → length (s .words) ≡ 8 → length bs ≡ 8
+      → ((i : ℕ) → Row (getD bs i (replicate 16 0))) → Bytes memory → Bytes store
+      → Serves (machineOf (listsIn memory store s bs) (s .entries) (smallIn s r) (length memory))
+  serves-of e ls ps ws k rows mb sb =
+      let a = acc in
+      let f = formed-of (listsIn memory store s bs) (s .entries) (smallIn s r) (s .size) e ls ps (a .store) sb ws k rows (a .whole) (a .short) mb in
+      subst (λ (n : ℕ). Serves (machineOf (listsIn memory store s bs) (s .entries) (smallIn s r) n)) (a .size)
+      (subst (λ (x : List (List ℕ)). Formed (machineOf (listsIn memory store s x) (s .entries) (smallIn s r) (s .size)) → Serves (machineOf (listsIn memory store s x) (s .entries) (smallIn s r) (s .size))) (sym b)
+      (λ g. record { formed = g; is-sound = a .is-sound; size = a .size }) f)
+
+  pub called-by : (k : Lists) (fs : List ℕ) (o : Outcome) (c : Call) (held : List SlotBytes)
+      → steppedOf k fs (length memory) o ≡ served (machineOf (listsIn memory store s bs) (s .entries) (smallIn s r) (length memory)) c
+      → bytesOf held ≡ k .bytes
+      → calledOf (k .memory) (k .store) (record {
+        state = record {
+          size = s .size;
+          counts = o .small .counts;
+          used = o .small .used;
+          entries = fs;
+          lines = k .lines;
+          pointers = k .pointers;
+          words = k .words;
+          slots = held;
+        };
+        cp15 = o .small .cp15;
+        answer = o .answer;
+      })
+      ≡ served (machineIn memory store s r) c
+  called-by k fs o c held e g =
+      let a = acc in
+      rw (g, a .size) (subst (λ (x : List (List ℕ)). steppedOf k fs (length memory) o ≡ served (machineOf (listsIn memory store s x) (s .entries) (smallIn s r) (length memory)) c) b e)
+
+  pub ran-by : (k : Lists) (fs answers : List ℕ) (t : Small) (made : ℕ) (held : List SlotBytes) (n : ℕ) (calls old : List ℕ)
+      → _≡_ {A = Left} (record { machine = machineOf k fs t (length memory); answers = answers; made = made })
+      (leftBy old (folded n (machineOf (listsIn memory store s bs) (s .entries) (smallIn s r) (length memory)) calls 0))
+      → bytesOf held ≡ k .bytes
+      → ranOf (k .memory) (k .store) answers (record {
+        state = record {
+          size = s .size;
+          counts = t .counts;
+          used = t .used;
+          entries = fs;
+          lines = k .lines;
+          pointers = k .pointers;
+          words = k .words;
+          slots = held;
+        };
+        cp15 = t .cp15;
+        made = made;
+      })
+      ≡ leftBy old (folded n (machineIn memory store s r) calls 0)
+  ran-by k fs answers t made held n calls old e g =
+      let a = acc in
+      rw (g, a .size) (subst (λ (x : List (List ℕ)). _≡_ {A = Left} (record { machine = machineOf k fs t (length memory); answers = answers; made = made }) (leftBy old (folded n (machineOf (listsIn memory store s x) (s .entries) (smallIn s r) (length memory)) calls 0))) b e)
