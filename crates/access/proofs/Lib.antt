@@ -2,4 +2,3 @@ pub mod Laws
 pub mod Reaches
 pub mod Loads
 pub mod Stores
-pub mod SoundKept

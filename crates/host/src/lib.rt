@@ -5,7 +5,14 @@ ghost use Prim.Native.Nat.{ℕ};
 ghost use lib.ListN.{length};
 ghost use Rattle.plain.specs.Run.{plainRun};
 ghost use Rattle.walk.specs.Ranges.{Ranged};
+ghost use Rattle.step.specs.Start.{started};
+ghost use Rattle.step.specs.Batch as batch;
+ghost use Rattle.sa110.specs.State.{machineIn, ranOf, startedOf};
 ghost use Rattle.host.specs.Exports as spec;
+ghost use Rattle.host.specs.Coded as coded;
+use sa110::Ran;
+use sa110::Started;
+use sa110::State;
 use values::Counts;
 use values::Cp15;
 use values::Registers;
@@ -163,4 +170,84 @@ pub extern "C" fn sa110_sound(
         numbers,
         n,
     ))
+}
+
+// The start: a fresh state and a record of zeros, or refusal 1 or 2 with a state all zeros.
+#[no_mangle]
+pub extern "C" fn sa110_start(memory: &[u8], store: &[u8]) -> Started
+    ensures { λ r. ⌜ startedOf (now (memory .entry)) (now (store .entry)) r ≡ started (now (memory .entry)) (now (store .entry)) ⌝ }
+{
+    sa110::start(memory, store)
+}
+
+// What a call leaves beside the lent bytes, its answer as one number.
+#[repr(C)]
+pub struct Answered {
+    pub state: State,
+    pub cp15: Cp15,
+    pub code: u64,
+}
+
+// The answer to numbers that are no call: nothing changes.
+fn no_call(state: State, cp15: Cp15) -> Answered
+    ensures { λ r. ⌜ r ≡ record { state = state; cp15 = cp15; code = 12884901888 } ⌝ }
+{
+    Answered {
+        state,
+        cp15,
+        code: 12884901888,
+    }
+}
+
+// A call of five numbers.
+#[no_mangle]
+pub extern "C" fn sa110_call(
+    state: State,
+    cp15: Cp15,
+    memory: &mut [u8],
+    store: &mut [u8],
+    kind: u32,
+    privileged: u32,
+    n: u32,
+    a: u32,
+    v: u32,
+) -> Answered
+    ensures { λ r.
+        ⌜ coded.answeredOf (now (memory .exit)) (now (store .exit)) r
+        ≡ coded.calledBy (machineIn (now (memory .entry)) (now (store .entry)) state cp15) kind privileged n a v ⌝ }
+{
+    if kind > 4 {
+        return no_call(state, cp15);
+    }
+    if privileged > 1 {
+        return no_call(state, cp15);
+    }
+    let c = trace::call_of(kind, privileged, n, a, v);
+    let r = sa110::call(state, cp15, memory, store, c);
+    let answer = r.answer;
+    let after = r.state;
+    let left = r.cp15;
+    let code = trace::code(answer);
+    Answered {
+        state: after,
+        cp15: left,
+        code,
+    }
+}
+
+// A run over a list of calls, five numbers each.
+#[no_mangle]
+pub extern "C" fn sa110_run(
+    state: State,
+    cp15: Cp15,
+    memory: &mut [u8],
+    store: &mut [u8],
+    calls: &[u32],
+    answers: &mut [u64],
+) -> Ran
+    ensures { λ r.
+        ⌜ ranOf (now (memory .exit)) (now (store .exit)) (now (answers .exit)) r
+        ≡ batch.run (machineIn (now (memory .entry)) (now (store .entry)) state cp15) (now (calls .entry)) (now (answers .entry)) ⌝ }
+{
+    sa110::run(state, cp15, memory, store, calls, answers)
 }

@@ -16,8 +16,8 @@ use Rattle.values.specs.declared.Status.{Status}
 use Rattle.values.specs.declared.Status.the-variants.{Alignment, WalkFirst, TranslationSection, TranslationPage, DomainPage, PermissionSection, PermissionPage}
 use Rattle.walk.specs.Walk.{firstAddress, secondAddress}
 use Rattle.access.specs.Access.{withRegisters}
-use Rattle.sa110.specs.Start.{started}
-use Rattle.sa110.specs.Run.{answers}
+use Rattle.step.specs.Start.{started}
+use Rattle.step.specs.Run.{answers}
 
 -- ---- calls
 

@@ -12,10 +12,10 @@ use Rattle.values.specs.declared.Search.{Search}
 use Rattle.cache.specs.Dcache.{find}
 use Rattle.sound.specs.Machine.{Machine}
 use Rattle.sound.specs.Meaning.{linesOf}
-use Rattle.sound.proofs.Reader.{sound-means}
-use Rattle.sa110.specs.Refusals.{stateRefusal}
+use Rattle.soundness.proofs.Reader.{sound-means}
+use Rattle.step.specs.Refusals.{stateRefusal}
 use Rattle.sa110.specs.Look.{look, lookFound}
-use Rattle.sa110.proofs.StateRefusals.{Accepts, accepts}
+use Rattle.step.proofs.StateRefusals.{Accepts, accepts}
 
 module _ (m : Machine) (va : VirtualAddress) (n : ℕ) (e : n ≡ stateRefusal m 0) where
   pub look-refused : (n ≡ 0 → ⊥) → [] ≡ look m va

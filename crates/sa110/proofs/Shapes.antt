@@ -21,19 +21,19 @@ use Rattle.buffer.specs.Packing.{slotsOf}
 use Rattle.buffer.proofs.Slots.{slot-at, length-slots}
 use Rattle.cache.specs.Packing.{lineOf}
 use Rattle.sound.specs.Formed.{Formed}
-use Rattle.sound.proofs.Parts.{same-at}
+use Rattle.soundness.proofs.Parts.{same-at}
 use Rattle.values.specs.declared.Cp15.{Cp15}
 use Rattle.values.specs.declared.Call.{Call}
 use Rattle.access.specs.declared.Outcome.{Outcome}
 use Rattle.access.specs.Access.{Stepped}
-use Rattle.sa110.specs.Refusals.{stateRefusal}
-use Rattle.sa110.specs.Call.{served}
-use Rattle.sa110.specs.Code.{Serves}
-use Rattle.sa110.specs.Batch.{Left, leftBy, folded}
+use Rattle.step.specs.Refusals.{stateRefusal}
+use Rattle.step.specs.Call.{served}
+use Rattle.step.specs.Code.{Serves}
+use Rattle.step.specs.Batch.{Left, leftBy, folded}
 use Rattle.sa110.specs.State.{bytesOf, machineIn, calledOf, ranOf}
 use Rattle.sa110.specs.declared.State.{State}
 use Rattle.sa110.specs.declared.SlotBytes.{SlotBytes}
-use Rattle.sa110.proofs.StateRefusals.{Accepts, accepts}
+use Rattle.step.proofs.StateRefusals.{Accepts, accepts}
 use Rattle.access.specs.declared.Small.{Small}
 use Rattle.access.specs.Code.{Lists, machineOf, steppedOf}
 

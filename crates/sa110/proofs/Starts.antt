@@ -16,8 +16,8 @@ use Rattle.buffer.specs.Packing.{slotsOf}
 use Rattle.cache.specs.Packing.{lineOf, linesOf}
 use Rattle.cache.proofs.Lines.{line-zero}
 use Rattle.sound.specs.Machine.{Machine, fresh}
-use Rattle.sa110.specs.Refusals.{lentRefusal}
-use Rattle.sa110.specs.Start.{Started, startRefusal, started}
+use Rattle.step.specs.Refusals.{lentRefusal}
+use Rattle.step.specs.Start.{Started, startRefusal, started}
 use Rattle.sa110.specs.State.{bytesOf, machineIn}
 use Rattle.sa110.specs.declared.State.{State}
 use Rattle.sa110.specs.declared.SlotBytes.{SlotBytes}

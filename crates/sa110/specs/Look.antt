@@ -17,7 +17,7 @@ use Rattle.tlb.specs.Tlb.{translated}
 use Rattle.cache.specs.Dcache.{find}
 use Rattle.sound.specs.Machine.{Machine, memoryOf, storeOf}
 use Rattle.translation.specs.Faults.{inside}
-use Rattle.sa110.specs.Refusals.{stateRefusal}
+use Rattle.step.specs.Refusals.{stateRefusal}
 
 -- the 32 bytes of a line of a list of bytes
 abbrev pub lineBytes : List ℕ → ℕ → List ℕ

@@ -10,8 +10,8 @@ use Rattle.sa110.specs.declared.SlotBytes.{SlotBytes}
 use Rattle.sa110.specs.declared.State.{State}
 use Rattle.sa110.specs.declared.Called.{Called}
 use Rattle.sa110.specs.declared.Ran.{Ran}
-use Rattle.sa110.specs.Batch.{Left}
-use Rattle.sa110.specs.Start as starts
+use Rattle.step.specs.Batch.{Left}
+use Rattle.step.specs.Start as starts
 use Rattle.sa110.specs.declared.Started.{Started}
 
 -- the bytes of the write buffer's places

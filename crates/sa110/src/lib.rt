@@ -15,14 +15,13 @@ ghost use Rattle.walk.specs.Ranges.{Ranged};
 ghost use Rattle.sound.specs.Machine.{Machine};
 ghost use Rattle.sound.specs.Machine as machines;
 ghost use Rattle.sound.specs.Soundness.{sound};
-ghost use Rattle.sa110.specs.Refusals.{stateRefusal};
-ghost use Rattle.sa110.specs.Call as spec;
-ghost use Rattle.sa110.specs.Batch as batch;
-ghost use Rattle.sa110.specs.Start as starts;
+ghost use Rattle.step.specs.Refusals.{stateRefusal};
+ghost use Rattle.step.specs.Call as spec;
+ghost use Rattle.step.specs.Batch as batch;
+ghost use Rattle.step.specs.Start as starts;
 ghost use Rattle.sa110.specs.Look as looks;
-ghost use Rattle.sa110.specs.Code.{Serves, Holds};
+ghost use Rattle.step.specs.Code.{Serves, Holds};
 ghost use Rattle.sa110.specs.State.{bytesOf, machineIn, calledOf, ranOf, startedOf};
-use access::Outcome;
 use access::Small;
 use values::Answer;
 use values::Call;
@@ -34,196 +33,14 @@ use values::Search;
 use values::VirtualAddress;
 use walk::Mapping;
 
-// A call that is not refused.
-fn done(
-    table: &[u8; 256],
-    memory: &mut [u8],
-    words: &mut [u64],
-    bytes: &mut [[u8; 16]; 8],
-    lines: &mut [u64],
-    pointers: &mut [u32],
-    store: &mut [u8],
-    entries: &mut [u64],
-    s: Small,
-    c: Call,
-) -> Outcome
-    requires { ⌜ (now table ≡ rightsTable) × TlbReady (now entries) s
-        × SideReady (record { memory = now memory; words = now words; bytes = now bytes; lines = now lines; pointers = now pointers; store = now store }) s
-        × (s .cp15 .registers .control < 8192) × (refused.callRefusal c ≡ 0) ⌝ }
-    ensures { λ r.
-        ⌜ ((size : ℕ)
-        → steppedOf (record { memory = now (memory .exit); words = now (words .exit); bytes = now (bytes .exit); lines = now (lines .exit); pointers = now (pointers .exit); store = now (store .exit) }) (now (entries .exit)) size r
-        ≡ spec.done (machineOf (record { memory = now (memory .entry); words = now (words .entry); bytes = now (bytes .entry); lines = now (lines .entry); pointers = now (pointers .entry); store = now (store .entry) }) (now (entries .entry)) s size) c) × (length (now (bytes .exit)) ≡ 8) ⌝ }
-{
-    match c {
-        Call::Load(a) => access::load(
-            table,
-            memory,
-            words,
-            bytes,
-            lines,
-            pointers,
-            store,
-            entries,
-            s,
-            false,
-            a,
-        ),
-        Call::SignedLoad(a) => access::load(
-            table,
-            memory,
-            words,
-            bytes,
-            lines,
-            pointers,
-            store,
-            entries,
-            s,
-            true,
-            a,
-        ),
-        Call::Store(a, v) => access::store(
-            table,
-            memory,
-            words,
-            bytes,
-            lines,
-            store,
-            entries,
-            s,
-            a,
-            v,
-        ),
-        Call::Read(t) => cp15::read(s, t),
-        Call::Write(t, v) => cp15::write(memory, words, bytes, lines, store, entries, s, t, v),
-    }
-}
-
-// The small parts with another call.
-fn counted(s: Small) -> Small
-    requires { ⌜ s .counts .calls < 4294967295 ⌝ }
-    ensures { λ r.
-        ⌜ r ≡ record {
-          cp15 = s .cp15;
-          counts = record { calls = s .counts .calls + 1; misses = s .counts .misses; hits = s .counts .hits; fills = s .counts .fills; halves = s .counts .halves };
-          used = s .used;
-        } ⌝ }
-{
-    let n = s.counts.calls + 1;
-    let mut out = s;
-    out.counts.calls = n;
-    out
-}
-
-// A call on a machine that refusals 1 to 4 do not hold of.
-fn step(
-    table: &[u8; 256],
-    memory: &mut [u8],
-    words: &mut [u64],
-    bytes: &mut [[u8; 16]; 8],
-    lines: &mut [u64],
-    pointers: &mut [u32],
-    store: &mut [u8],
-    entries: &mut [u64],
-    s: Small,
-    c: Call,
-) -> Outcome
-    requires { ⌜ (now table ≡ rightsTable) × (length (now words) ≡ 8) × (length (now bytes) ≡ 8)
-        × Serves (machineOf (record { memory = now memory; words = now words; bytes = now bytes; lines = now lines; pointers = now pointers; store = now store }) (now entries) s (length (now memory))) ⌝ }
-    ensures { λ r.
-        ⌜ (steppedOf (record { memory = now (memory .exit); words = now (words .exit); bytes = now (bytes .exit); lines = now (lines .exit); pointers = now (pointers .exit); store = now (store .exit) }) (now (entries .exit)) (length (now (memory .entry))) r
-        ≡ spec.served (machineOf (record { memory = now (memory .entry); words = now (words .entry); bytes = now (bytes .entry); lines = now (lines .entry); pointers = now (pointers .entry); store = now (store .entry) }) (now (entries .entry)) s (length (now (memory .entry)))) c)
-        × (length (now (bytes .exit)) ≡ 8) ⌝ }
-{
-    if s.counts.calls == 4294967295 {
-        return Outcome {
-            small: s,
-            answer: Answer::Refused(5),
-        };
-    }
-    let n = registers::call_refusal(c);
-    if n != 0 {
-        return Outcome {
-            small: s,
-            answer: Answer::Refused(n),
-        };
-    }
-    done(
-        table,
-        memory,
-        words,
-        bytes,
-        lines,
-        pointers,
-        store,
-        entries,
-        counted(s),
-        c,
-    )
-}
-
-// The small parts after a run, and how many calls were made.
-pub struct Folded {
-    pub small: Small,
-    pub made: usize,
-}
-
-// The first n calls of a list, on a machine that refusals 1 to 4 do not hold of: none of them holds of a machine that a call leaves.
-fn run_calls(
-    table: &[u8; 256],
-    memory: &mut [u8],
-    words: &mut [u64],
-    bytes: &mut [[u8; 16]; 8],
-    lines: &mut [u64],
-    pointers: &mut [u32],
-    store: &mut [u8],
-    entries: &mut [u64],
-    first: Small,
-    calls: &[u32],
-    answers: &mut [u64],
-    n: usize,
-) -> Folded
-    requires { ⌜ (now table ≡ rightsTable) × (length (now words) ≡ 8) × (length (now bytes) ≡ 8) × Holds (now calls) (now answers) n
-        × Serves (machineOf (record { memory = now memory; words = now words; bytes = now bytes; lines = now lines; pointers = now pointers; store = now store }) (now entries) first (length (now memory))) ⌝ }
-    ensures { λ r.
-        ⌜ _≡_ {A = batch.Left}
-        (record { machine = machineOf (record { memory = now (memory .exit); words = now (words .exit); bytes = now (bytes .exit); lines = now (lines .exit); pointers = now (pointers .exit); store = now (store .exit) }) (now (entries .exit)) (r .small) (length (now (memory .entry))); answers = now (answers .exit); made = r .made })
-        (batch.leftBy (now (answers .entry)) (batch.folded n (machineOf (record { memory = now (memory .entry); words = now (words .entry); bytes = now (bytes .entry); lines = now (lines .entry); pointers = now (pointers .entry); store = now (store .entry) }) (now (entries .entry)) first (length (now (memory .entry)))) (now (calls .entry)) 0)) ⌝ }
-{
-    let mut s = first;
-    let mut i: usize = 0;
-    while i < n {
-        if !trace::is_call_at(calls, i) {
-            return Folded { small: s, made: i };
-        }
-        let c = trace::call_at(calls, i);
-        let o = step(
-            table,
-            memory,
-            words,
-            bytes,
-            lines,
-            pointers,
-            store,
-            entries,
-            s,
-            c,
-        );
-        let a = o.answer;
-        answers[i] = trace::code(a);
-        let t = o.small;
-        s = t;
-        i += 1;
-    }
-    Folded { small: s, made: i }
-}
-
 // The sixteen bytes of a place of the write buffer.
+#[repr(C)]
 pub struct SlotBytes {
     pub bytes: [u8; 16],
 }
 
 // The state: the memory's length at the start, the counts, the number of buffer entries, and the words of TLB, Dcache and write buffer.
+#[repr(C)]
 pub struct State {
     pub size: usize,
     pub counts: Counts,
@@ -336,7 +153,7 @@ fn serve(state: State, cp15: Cp15, memory: &mut [u8], store: &mut [u8], c: Call)
         counts,
         used: state.used,
     };
-    let o = step(
+    let o = step::step(
         &table,
         memory,
         &mut words,
@@ -385,34 +202,8 @@ pub fn call(state: State, cp15: Cp15, memory: &mut [u8], store: &mut [u8], c: Ca
     serve(state, cp15, memory, store, c)
 }
 
-// How many calls of five numbers the lists of calls and answers hold.
-fn calls_held(calls: &[u32], answers: &[u64]) -> usize
-    ensures { λ r. ⌜ r ≡ min (length (now (calls .entry)) / 5) (length (now (answers .entry))) ⌝ }
-{
-    let a = calls.len() / 5;
-    let b = answers.len();
-    if a < b { a } else { b }
-}
-
-// The first n calls of a list, each refused by the number. It answers how many calls there were.
-fn refuse_calls(calls: &[u32], answers: &mut [u64], n: usize, refusal: u32) -> usize
-    requires { ⌜ Holds (now calls) (now answers) n × (refusal ≡ 0 → ⊥) ⌝ }
-    ensures { λ r.
-        ⌜ ((m : Machine) → refusal ≡ stateRefusal m 0 → _≡_ {A = batch.Left} (record { machine = m; answers = now (answers .exit); made = r })
-        (batch.leftBy (now (answers .entry)) (batch.folded n m (now (calls .entry)) 0))) ⌝ }
-{
-    let mut i: usize = 0;
-    while i < n {
-        if !trace::is_call_at(calls, i) {
-            return i;
-        }
-        answers[i] = trace::code(Answer::Refused(refusal));
-        i += 1;
-    }
-    i
-}
-
 // What a run leaves beside the lent lists.
+#[repr(C)]
 pub struct Ran {
     pub state: State,
     pub cp15: Cp15,
@@ -447,7 +238,7 @@ fn run_served(
         counts,
         used: state.used,
     };
-    let f = run_calls(
+    let f = step::run_calls(
         &table,
         memory,
         &mut words,
@@ -496,19 +287,20 @@ pub fn run(
         ⌜ ranOf (now (memory .exit)) (now (store .exit)) (now (answers .exit)) r
         ≡ batch.run (machineIn (now (memory .entry)) (now (store .entry)) state cp15) (now (calls .entry)) (now (answers .entry)) ⌝ }
 {
-    let n = calls_held(calls, answers);
+    let n = step::calls_held(calls, answers);
     let refusal = state_refusal(state, cp15, memory, store);
     if refusal != 0 {
         return Ran {
             state,
             cp15,
-            made: refuse_calls(calls, answers, n, refusal),
+            made: step::refuse_calls(calls, answers, n, refusal),
         };
     }
     run_served(state, cp15, memory, store, calls, answers, n)
 }
 
 // What a start leaves: a fresh state and a record of zeros, and refusal 1 or 2, or 0.
+#[repr(C)]
 pub struct Started {
     pub state: State,
     pub cp15: Cp15,

@@ -2,12 +2,3 @@ pub mod Clauses
 pub mod Twice
 pub mod Tags
 pub mod Slots
-pub mod Parts
-pub mod Reader
-pub mod LowBytes
-pub mod BackingKept
-pub mod CacheKept
-pub mod TlbKept
-pub mod RegistersKept
-pub mod Holding
-pub mod FreshSound

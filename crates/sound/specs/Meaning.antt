@@ -1,5 +1,5 @@
 -- What a sound state is, said of every place: the clauses of refusal 3, "The state is unsound", in document 01's order. A state passes the test `sound`
--- exactly if it is so: `sound-means` and `sound-of`, crates/sound/proofs/Reader.antt. A place behind the end of a list reads as an empty place or 0.
+-- exactly if it is so: `sound-means` and `sound-of`, crates/soundness/proofs/Reader.antt. A place behind the end of a list reads as an empty place or 0.
 use Prim.Native.Nat.{ℕ, _+_, _*_, _/_, _<_, _≤_}
 use mathlib.Core.Bool.{true, false}
 use mathlib.Core.Logic.{_≢_}

@@ -24,9 +24,9 @@ use Rattle.translation.specs.declared.Checked.the-variants.{Passed, Denied}
 use Rattle.sound.specs.Machine.{Machine, memoryOf, fresh}
 use Rattle.access.specs.Access.{Stepped, more, faulted, loadHit, loadFill, loadUncached, loadMiss, loadFound, loadAt, load, reach, storeHit, storeBuffered, storeDirect, storeMiss, storeFound, storeAt, store}
 use Rattle.cp15.specs.Operations as cp15
-use Rattle.sa110.specs.Refusals.{refusal}
-use Rattle.sa110.specs.Start.{startRefusal, started}
-use Rattle.sa110.specs.Call.{done, served}
+use Rattle.step.specs.Refusals.{refusal}
+use Rattle.step.specs.Start.{startRefusal, started}
+use Rattle.step.specs.Call.{done, served}
 use Rattle.terms.specs.Term1.{ValueOrFault, Term1At, Term1Start, Term1}
 
 -- ---- every accepted call answers a value or a fault

@@ -34,8 +34,8 @@ use Rattle.translation.specs.Faults.{inside, fills, buffers}
 use Rattle.translation.specs.declared.Translation.{Translation}
 use Rattle.translation.specs.declared.Translation.the-variants.{Flat, Held, Walked, Failed}
 use Rattle.translation.specs.declared.Place.{Place}
-use Rattle.sa110.specs.Refusals.{refusal}
-use Rattle.sa110.specs.Call.{served}
+use Rattle.step.specs.Refusals.{refusal}
+use Rattle.step.specs.Call.{served}
 
 -- a row: its condition, and the fault's status and domain
 pub record Row : Type 0 where

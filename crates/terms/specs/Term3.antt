@@ -9,8 +9,8 @@ use Rattle.values.specs.declared.Call.{Call}
 use Rattle.values.specs.declared.Call.the-variants.{Load, SignedLoad, Store, Read, Write}
 use Rattle.words.specs.Words.{Bytes}
 use Rattle.sound.specs.Machine.{Machine, memoryOf}
-use Rattle.sa110.specs.Start.{startRefusal, started}
-use Rattle.sa110.specs.Run.{answers, final}
+use Rattle.step.specs.Start.{startRefusal, started}
+use Rattle.step.specs.Run.{answers, final}
 use Rattle.plain.specs.Plain.{plainStart, plainAnswers, plainFinal}
 use Rattle.terms.specs.History.{noHistory, historyAfter}
 use Rattle.terms.specs.Rules.{Keeps, Settled}

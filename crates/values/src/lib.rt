@@ -44,6 +44,7 @@ pub enum Answer {
 }
 
 // The plain five registers: 1 control, 2 table base, 3 domain values, 5 FSR, 6 FAR.
+#[repr(C)]
 pub struct Registers {
     pub control: u32,
     pub base: u32,
@@ -53,12 +54,14 @@ pub struct Registers {
 }
 
 // The small record: the plain five registers and the TLB pointer.
+#[repr(C)]
 pub struct Cp15 {
     pub registers: Registers,
     pub pointer: u32,
 }
 
 // The five counts: calls, TLB misses, Dcache hits, line fills, halves sent out.
+#[repr(C)]
 pub struct Counts {
     pub calls: u32,
     pub misses: u32,

@@ -1,4 +1,4 @@
-use Rattle.sa110.proofs.Runs.{run-as, held-by}
+use Rattle.step.proofs.Runs.{run-as, held-by}
 use Rattle.sa110.specs.State.{machineIn}
 use mathlib.Core.Path.{_≡_, sym, _∙_}
 use denote.Ref.{now}
@@ -7,8 +7,8 @@ use Rattle.sa110.proofs.run.Statement.{statement}
 use Rattle.sa110.proofs.run.Tie as tie
 use Rattle.sa110.proofs.run.Reads as reads
 use Rattle.sa110.proofs.run.Lts as lts
-use Rattle.sa110.proofs.calls_held.Reads as calls-held-reads
-use Rattle.sa110.proofs.refuse_calls.Reads as refuse-calls-reads
+use Rattle.step.proofs.calls_held.Reads as calls-held-reads
+use Rattle.step.proofs.refuse_calls.Reads as refuse-calls-reads
 use Rattle.sa110.proofs.run_served.Reads as run-served-reads
 use Rattle.sa110.proofs.state_refusal.Reads as state-refusal-reads
 

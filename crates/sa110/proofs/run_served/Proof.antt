@@ -11,7 +11,7 @@ use Rattle.sa110.proofs.run_served.Reads as reads
 use Rattle.sa110.proofs.run_served.Lts as lts
 use Rattle.rights.proofs.table.Reads as table-reads
 use Rattle.sa110.proofs.packed.Reads as packed-reads
-use Rattle.sa110.proofs.run_calls.Reads as run-calls-reads
+use Rattle.step.proofs.run_calls.Reads as run-calls-reads
 use Rattle.sa110.proofs.unpacked.Reads as unpacked-reads
 
 -- src/lib.rt:428:17

@@ -14,7 +14,7 @@ use Rattle.sa110.proofs.serve.Reads as reads
 use Rattle.sa110.proofs.serve.Lts as lts
 use Rattle.rights.proofs.table.Reads as table-reads
 use Rattle.sa110.proofs.packed.Reads as packed-reads
-use Rattle.sa110.proofs.step.Reads as step-reads
+use Rattle.step.proofs.step.Reads as step-reads
 use Rattle.sa110.proofs.unpacked.Reads as unpacked-reads
 
 -- src/lib.rt:316:17

@@ -1,4 +1,4 @@
-use Rattle.sa110.proofs.StateRefusals.{refused-odd, refused-long, refused-store, refused-unsound, refused-size, not-state-refused}
+use Rattle.step.proofs.StateRefusals.{refused-odd, refused-long, refused-store, refused-unsound, refused-size, not-state-refused}
 use Rattle.sa110.specs.State.{machineIn}
 use mathlib.Core.Path.{_≡_, refl, sym, _∙_}
 use denote.Ref.{now}

@@ -1,0 +1,11 @@
+pub mod Parts
+pub mod Reader
+pub mod LowBytes
+pub mod BackingKept
+pub mod CacheKept
+pub mod TlbKept
+pub mod RegistersKept
+pub mod Holding
+pub mod FreshSound
+pub mod AccessKept
+pub mod Cp15Kept

@@ -1,0 +1,1 @@
+// What soundness means, and that every access and CP15 call keeps it, stand in proofs/.

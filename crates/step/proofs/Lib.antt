@@ -1,0 +1,4 @@
+pub mod SoundKept
+pub mod Ready
+pub mod StateRefusals
+pub mod Runs
