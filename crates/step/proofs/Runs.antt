@@ -18,13 +18,13 @@ use Rattle.access.specs.declared.Small.{Small}
 use Rattle.access.specs.declared.Outcome.{Outcome}
 use Rattle.access.specs.Access.{Stepped}
 use Rattle.access.specs.Code.{Lists, machineOf, steppedOf}
-use Rattle.step.specs.Call.{served}
+use Rattle.step.specs.Call.{served, Numbers}
 use Rattle.step.specs.Batch.{Folded, before, folded, Left, leftBy, run}
 use Rattle.step.specs.Code.{Serves, Holds}
 use Rattle.values.specs.declared.Answer.{Answer}
 use Rattle.values.specs.declared.Answer.the-variants as answer
 use Rattle.step.specs.Refusals.{stateRefusal}
-use Rattle.step.proofs.SoundKept.{Numbers, sound-kept}
+use Rattle.step.proofs.SoundKept.{sound-kept}
 use Rattle.step.proofs.StateRefusals.{state-refused}
 
 -- ---- the numbers of a call

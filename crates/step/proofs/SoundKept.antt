@@ -26,15 +26,7 @@ use Rattle.soundness.proofs.AccessKept.{load-kept, store-kept, counted-roomy}
 use Rattle.soundness.proofs.Cp15Kept.{not-refused, read-kept, write-kept}
 use Rattle.step.specs.Refusals.{storeFits, stateRefusal, refusal}
 use Rattle.step.specs.Start.{startRefusal, started}
-use Rattle.step.specs.Call.{done, served}
-
--- the numbers of a call have 32 bits
-abbrev pub Numbers : Call → Type 0
-Numbers (Load a) = a .address .0 < 4294967296
-Numbers (SignedLoad a) = a .address .0 < 4294967296
-Numbers (Store a v) = (a .address .0 < 4294967296) × (v < 4294967296)
-Numbers (Read t) = Unit {0}
-Numbers (Write t v) = v < 4294967296
+use Rattle.step.specs.Call.{done, served, Numbers}
 
 -- ---- a served start
 

@@ -1,5 +1,5 @@
 -- One call of the library: the step that the contracts and term 3 cite.
-use Prim.Native.Nat.{ℕ}
+use Prim.Native.Nat.{ℕ, _<_}
 use mathlib.Core.Bool.{Bool, true, false, cond}
 use lib.Dec.{eqb}
 use Rattle.values.specs.declared.Call.{Call}
@@ -26,3 +26,14 @@ servedBy m c n = cond (eqb n 0) (done (more m 1 0 0 0 0) c) (record { machine = 
 
 unfoldable pub served : Machine → Call → Stepped
 served m c = servedBy m c (refusal m c)
+
+-- "32 bits each": a call's address, and the value that it stores or writes, as the library's types have them
+abbrev pub Is32 : ℕ → Type 0
+Is32 n = n < 4294967296
+
+abbrev pub Numbers : Call → Type 0
+Numbers (Load a) = Is32 (a .address .0)
+Numbers (SignedLoad a) = Is32 (a .address .0)
+Numbers (Store a v) = Is32 (a .address .0) × Is32 v
+Numbers (Read t) = Unit {0}
+Numbers (Write t v) = Is32 v

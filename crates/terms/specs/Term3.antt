@@ -1,31 +1,19 @@
 -- Term 3: "For every list of calls that keeps rules R1 to R6, all answers are those of the plain machine (no TLB, cache or buffer), and after
 -- cleaning and draining so is memory, byte for byte."
-use Prim.Native.Nat.{ℕ, _<_}
+use Prim.Native.Nat.{ℕ}
 use mathlib.Core.Path.{_≡_}
 use mathlib.Core.List.{List, [], _∷_}
-use Rattle.values.specs.declared.Access.{Access}
-use Rattle.values.specs.declared.Transfer.{Transfer}
 use Rattle.values.specs.declared.Call.{Call}
-use Rattle.values.specs.declared.Call.the-variants.{Load, SignedLoad, Store, Read, Write}
 use Rattle.words.specs.Words.{Bytes}
 use Rattle.sound.specs.Machine.{Machine, memoryOf}
 use Rattle.step.specs.Start.{startRefusal, started}
+use Rattle.step.specs.Call.{Numbers}
 use Rattle.step.specs.Run.{answers, final}
 use Rattle.plain.specs.Plain.{plainStart, plainAnswers, plainFinal}
 use Rattle.terms.specs.History.{noHistory, historyAfter}
 use Rattle.terms.specs.Rules.{Keeps, Settled}
 
--- "32 bits each": a call's address, and the value that it stores or writes, as the library's types have them
-abbrev pub Is32 : ℕ → Type 0
-Is32 n = n < 4294967296
-
-abbrev pub Numbers : Call → Type 0
-Numbers (Load a) = Is32 (a .address .0)
-Numbers (SignedLoad a) = Is32 (a .address .0)
-Numbers (Store a v) = Is32 (a .address .0) × Is32 v
-Numbers (Read t) = Unit {0}
-Numbers (Write t v) = Is32 v
-
+-- "32 bits each": every call's address, and the value that it stores or writes
 unfoldable pub AllNumbers : List Call → Type 0
 AllNumbers [] = Unit {0}
 AllNumbers (c ∷ cs) = Numbers c × AllNumbers cs

@@ -1,0 +1,170 @@
+-- A load that misses: the line that is filled, or the bytes that are read from memory, are the plain machine's.
+use Prim.Native.Nat.{ℕ, _+_, _*_, _/_, _%_, _<_, _≤_}
+use native.Mathlib.Omega.{arith}
+use mathlib.Core.Bool.{Bool, true, false, _||_}
+use mathlib.Core.Logic.{_≢_}
+use mathlib.Core.Path.{_≡_, refl, sym, _∙_, ap, subst}
+use mathlib.Core.List.{List}
+use lib.Dec.{eqb, ltb}
+use lib.ListN.{length, getD}
+use borrow.Author.Tests.{eqb-true, eqb-false, ltb-true, ltb-false}
+use Rattle.values.specs.Addresses.{virtualLine, physicalLine, setOf, tagOf}
+use Rattle.values.specs.declared.VirtualAddress.{VirtualAddress}
+use Rattle.values.specs.declared.PhysicalAddress.{PhysicalAddress}
+use Rattle.values.specs.declared.Line.{Line}
+use Rattle.values.specs.declared.Search.the-variants.{Nothing}
+use Rattle.values.proofs.Cases.{case, clash}
+use Rattle.buffer.specs.Buffer.{Backing, ready}
+use Rattle.buffer.proofs.Below.{below}
+use Rattle.cache.specs.Dcache.{Dcache, Side, find, victim, freshLine, halvesSent, filled}
+use Rattle.cache.proofs.PutGet.{filled-backing, line-filled, other-filled, byte-filled, byte-before-filled, byte-behind-filled}
+use Rattle.cache.proofs.Unchanged.{victim-low}
+use Rattle.soundness.proofs.BackingKept.{BackingIs}
+use Rattle.soundness.proofs.CacheKept.{SideIs, halves-kept}
+use Rattle.terms.specs.History.{Stage, History}
+use Rattle.terms.specs.Rules.{isStored}
+use Rattle.terms.proofs.Invariant.{at, virtualAt, dirtyAt, Undirty, Staged, byWord, byLine, SideAgrees}
+use Rattle.terms.proofs.BackingAgrees.{below-ready, ready-memory-below, staged-ready}
+use Rattle.terms.proofs.HeldLines.{missed-frame}
+use Rattle.terms.proofs.SentLines.{sent-below, sent-staged}
+
+-- the buffer made ready for a read
+pub ready-side : (n : ℕ) (s : Side) (k : SideIs n s) (pm : List ℕ) (h : History) (a w : ℕ) → SideAgrees s pm h
+    → SideAgrees (record { cache = s .cache; backing = ready (s .backing) a w }) pm h
+ready-side n s k pm h a w g =
+    record {
+      cache = g .cache;
+      under = λ x u. below-ready n (s .backing) (k .backing) a w x ∙ g .under x u;
+      words = staged-ready n (s .backing) (k .backing) pm (byWord h) a w (g .words);
+      lines = staged-ready n (s .backing) (k .backing) pm (byLine h) a w (g .lines);
+    }
+
+module _ (n : ℕ) (s : Side) (k : SideIs n s) (pm : List ℕ) (h : History) (g : SideAgrees s pm h) (va : VirtualAddress) (pa : PhysicalAddress)
+    (here : h .reached (virtualLine va) (physicalLine pa) ≡ true) (miss : find (s .cache .lines) va ≡ Nothing) where
+  not-held : (i : ℕ) → at (s .cache .lines) i .valid ≡ true → at (s .cache .lines) i .frame ≡ pa .0 / 32 → ⊥
+  not-held i u e = missed-frame n (s .cache) (k .cache) (h .reached) (g .cache .one) (g .cache .line-reached) va (pa .0 / 32) here i miss u e
+
+  -- ---- an uncached load
+
+  pub uncached-byte : (w x : ℕ) → pa .0 ≤ x → x < pa .0 + w → x / 32 ≡ pa .0 / 32 → getD (ready (s .backing) (pa .0) w .memory) x 0 ≡ getD pm x 0
+  uncached-byte w x p q e =
+      ready-memory-below n (s .backing) (k .backing) (pa .0) w x p q ∙ g .under x (λ i u f. absurd (not-held i u (f ∙ e)))
+
+  -- ---- a fill
+
+  module _ (inside : pa .0 / 32 * 32 + 32 ≤ n) where
+    abbrev j : ℕ
+    j = victim (s .cache) va
+
+    abbrev s′ : Side
+    s′ = filled s va pa .side
+
+    abbrev gone : Backing
+    gone = halvesSent (s .backing) (at (s .cache .lines) j) (s .cache .store) (j * 32)
+
+    low : j < 512
+    low = victim-low (s .cache) va (let p = k .cache .pointers (setOf va) in omega arith)
+
+    in-set : j / 32 ≡ setOf va
+    in-set = let p = k .cache .pointers (setOf va) in quotient (setOf va) (getD (s .cache .pointers) (setOf va) 0) p
+      where
+        quotient : (q p : ℕ) → p ≤ 31 → (q * 32 + p) / 32 ≡ q
+        quotient q p r = omega arith
+
+    line-j : at (s′ .cache .lines) j ≡ freshLine (tagOf va) (pa .0 / 32)
+    line-j = line-filled s va pa (let e = k .cache .shape .lines-long in let b = low in omega arith)
+
+    other : (i : ℕ) → i ≢ j → at (s′ .cache .lines) i ≡ at (s .cache .lines) i
+    other i d = other-filled s va pa i d
+
+    gone-is : BackingIs n gone
+    gone-is =
+        halves-kept n (s .backing) (at (s .cache .lines) j) (s .cache .store) (j * 32) (k .cache .lines j) (k .cache .store-bytes)
+        (omega (arith, k .cache .shape .store-long, low)) (k .backing)
+
+    -- no line of the new lines but the new one is another
+    others : (x : ℕ) → Undirty (s′ .cache .lines) x → (i : ℕ) → i ≢ j → at (s .cache .lines) i .valid ≡ true
+        → at (s .cache .lines) i .frame ≡ x / 32 → dirtyAt (at (s .cache .lines) i) x ≡ false
+    others x u i d v f =
+        let e = other i d in
+        subst (λ (y : Line). dirtyAt y x ≡ false) e (u i (ap (λ (y : Line). y .valid) e ∙ v) (ap (λ (y : Line). y .frame) e ∙ f))
+
+    -- a byte of the line that is read
+    read-byte : (x : ℕ) → x < 32 → getD (s′ .backing .memory) (pa .0 / 32 * 32 + x) 0 ≡ getD pm (pa .0 / 32 * 32 + x) 0
+    read-byte x b =
+        ap (λ (y : Backing). getD (y .memory) (pa .0 / 32 * 32 + x) 0) (filled-backing s va pa)
+        ∙ ready-memory-below n gone gone-is (pa .0 / 32 * 32) 32 (pa .0 / 32 * 32 + x) (omega arith) (omega arith)
+        ∙ sent-below n s k pm h g j low (pa .0 / 32 * 32 + x) (λ i d v f. absurd (not-held i v (f ∙ (let e : (pa .0 / 32 * 32 + x) / 32 ≡ pa .0 / 32 = omega arith in e))))
+
+    store-fits : j * 32 + 32 ≤ length (s .cache .store)
+    store-fits = omega (arith, k .cache .shape .store-long, low)
+
+    memory-fits : pa .0 / 32 * 32 + 32 ≤ length (s .backing .memory)
+    memory-fits = let e = k .backing .memory-long in omega arith
+
+    -- the bytes of the new line
+    pub filled-byte : (x : ℕ) → x < 32 → getD (filled s va pa .side .cache .store) (victim (s .cache) va * 32 + x) 0 ≡ getD pm (pa .0 / 32 * 32 + x) 0
+    filled-byte x b = byte-filled s va pa store-fits memory-fits x b ∙ read-byte x b
+
+    held′ : (i x : ℕ) → at (s′ .cache .lines) i .valid ≡ true → x < 32
+        → getD (s′ .cache .store) (i * 32 + x) 0 ≡ getD pm (at (s′ .cache .lines) i .frame * 32 + x) 0
+    held′ i x v b =
+        case (eqb i j)
+        (λ t.
+        let e = eqb-true i j t in
+        subst (λ (q : ℕ). getD (s′ .cache .store) (q * 32 + x) 0 ≡ getD pm (at (s′ .cache .lines) q .frame * 32 + x) 0) (sym e)
+        (filled-byte x b ∙ ap (λ (y : Line). getD pm (y .frame * 32 + x) 0) (sym line-j)))
+        (λ t.
+        let d = eqb-false i j t in
+        let e = other i d in
+        store-same d ∙ g .cache .held i x (sym (ap (λ (y : Line). y .valid) e) ∙ v) b ∙ ap (λ (y : Line). getD pm (y .frame * 32 + x) 0) (sym e))
+      where
+        store-same : i ≢ j → getD (s′ .cache .store) (i * 32 + x) 0 ≡ getD (s .cache .store) (i * 32 + x) 0
+        store-same d =
+            case (ltb i j) (λ t. let y = ltb-true i j t in byte-before-filled s va pa store-fits memory-fits (i * 32 + x) (omega arith))
+            (λ t. let y = ltb-false i j t in byte-behind-filled s va pa store-fits memory-fits (i * 32 + x) (let z = above d y in omega arith))
+          where
+            above : i ≢ j → j ≤ i → j < i
+            above r q = case (eqb i j) (λ u. absurd (r (eqb-true i j u))) (λ u. let z = eqb-false i j u in omega arith)
+
+    -- a fact about a valid line of the new lines, from the new line and the old lines
+    by-line {ℓ} : (P : ℕ → Line → Type ℓ) → P j (freshLine (tagOf va) (pa .0 / 32))
+        → ((i : ℕ) → at (s .cache .lines) i .valid ≡ true → P i (at (s .cache .lines) i)) → (i : ℕ) → at (s′ .cache .lines) i .valid ≡ true
+        → P i (at (s′ .cache .lines) i)
+    by-line P new old i v =
+        case (eqb i j)
+        (λ t. let e = eqb-true i j t in subst (λ (q : ℕ). P q (at (s′ .cache .lines) q)) (sym e) (subst (P j) (sym line-j) new))
+        (λ t.
+        let e = other i (eqb-false i j t) in
+        subst (P i) (sym e) (old i (sym (ap (λ (y : Line). y .valid) e) ∙ v)))
+
+    virtual-j : va .0 / 512 * 16 + j / 32 ≡ va .0 / 32
+    virtual-j = ap (λ (y : ℕ). va .0 / 512 * 16 + y) in-set ∙ (let e : va .0 / 512 * 16 + va .0 / 32 % 16 ≡ va .0 / 32 = omega arith in e)
+
+    pub filled-side : SideAgrees (filled s va pa .side) pm h
+    filled-side =
+        record {
+          cache = record {
+            held = held′;
+            line-reached =
+                by-line (λ (i : ℕ) (y : Line). h .reached (y .tag * 16 + i / 32) (y .frame) ≡ true)
+                (ap (λ (q : ℕ). h .reached q (pa .0 / 32)) virtual-j ∙ here) (g .cache .line-reached);
+            dirty-stored =
+                by-line (λ (i : ℕ) (y : Line). (y .low || y .high) ≡ true → isStored (h .lineStage (y .frame)) ≡ true)
+                (λ d. clash {b = false} d refl) (g .cache .dirty-stored);
+            dirty-through =
+                by-line (λ (i : ℕ) (y : Line). (y .low || y .high) ≡ true → h .through (y .frame) ≡ y .tag * 16 + i / 32)
+                (λ d. clash {b = false} d refl) (g .cache .dirty-through);
+            one = g .cache .one;
+          };
+          under = λ x u.
+              ap (λ (b : Backing). below b x) (filled-backing s va pa) ∙ below-ready n gone gone-is (pa .0 / 32 * 32) 32 x
+              ∙ sent-below n s k pm h g j low x (others x u);
+          words = staged (byWord h) (g .words);
+          lines = staged (byLine h) (g .lines);
+        }
+      where
+        staged : (stage : ℕ → Stage) → Staged (s .backing) pm stage → Staged (s′ .backing) pm stage
+        staged stage q =
+            subst (λ (b : Backing). Staged b pm stage) (sym (filled-backing s va pa))
+            (staged-ready n gone gone-is pm stage (pa .0 / 32 * 32) 32 (sent-staged n s k pm h g j low stage q))

@@ -1,0 +1,82 @@
+-- A store that misses, into the write buffer or into memory.
+use Prim.Native.Nat.{ℕ, _+_, _*_, _/_, _%_, _<_, _≤_}
+use native.Mathlib.Omega.{arith}
+use mathlib.Core.Bool.{Bool, true, false, _||_}
+use mathlib.Core.Path.{_≡_, refl, sym, _∙_, ap}
+use mathlib.Core.List.{List}
+use lib.Dec.{eqb}
+use lib.ListN.{length, getD}
+use borrow.Author.Tests.{ne-eqb}
+use Rattle.values.specs.Addresses.{virtualLine, physicalLine}
+use Rattle.values.specs.declared.VirtualAddress.{VirtualAddress}
+use Rattle.values.specs.declared.Search.the-variants.{Nothing}
+use Rattle.words.specs.Words.{stored}
+use Rattle.buffer.specs.Buffer.{Backing, drained, buffered}
+use Rattle.buffer.proofs.Below.{below}
+use Rattle.cache.specs.Dcache.{Dcache, Side, find}
+use Rattle.soundness.proofs.CacheKept.{SideIs}
+use Rattle.translation.specs.declared.Place.{Place}
+use Rattle.terms.specs.History.{History, withStore}
+use Rattle.terms.proofs.Invariant.{at, Staged, byWord, byLine, SideAgrees}
+use Rattle.terms.proofs.SettledBytes.{Outside, outside-stored}
+use Rattle.terms.proofs.BackingAgrees.{below-buffered, staged-buffered, below-direct, staged-direct}
+use Rattle.terms.proofs.HeldLines.{missed-frame}
+use Rattle.terms.proofs.StoredBytes.{words-stored, lines-stored}
+
+module _ (n : ℕ) (s : Side) (k : SideIs n s) (pm : List ℕ) (long : length pm ≡ n) (h : History) (g : SideAgrees s pm h) (va : VirtualAddress)
+    (l : Place) (w v : ℕ) (here : h .reached (virtualLine va) (physicalLine (l .address)) ≡ true) (miss : find (s .cache .lines) va ≡ Nothing)
+    (fits : l .address .0 % 4 + w ≤ 4) where
+  abbrev a : ℕ
+  a = l .address .0
+
+  abbrev pm′ : List ℕ
+  pm′ = stored w pm a v
+
+  not-held : (j : ℕ) → at (s .cache .lines) j .valid ≡ true → at (s .cache .lines) j .frame ≡ a / 32 → ⊥
+  not-held j u e = missed-frame n (s .cache) (k .cache) (h .reached) (g .cache .one) (g .cache .line-reached) va (a / 32) here j miss u e
+
+  -- a backing whose bytes below are the plain machine's after the store where they were before, or are stored
+  side-with : (b : Backing) → ((x : ℕ) → (Outside a w x → below (s .backing) x ≡ getD pm x 0) → below b x ≡ getD pm′ x 0)
+      → Staged b pm′ (byWord (withStore h va l)) → Staged b pm′ (byLine (withStore h va l))
+      → SideAgrees (record { cache = s .cache; backing = b }) pm′ (withStore h va l)
+  side-with b f p q =
+      record {
+        cache = record {
+          held = λ j x u z.
+              g .cache .held j x u z
+              ∙ sym (outside-stored w pm a v (at (s .cache .lines) j .frame * 32 + x) (λ r t. not-held j u (omega arith)));
+          line-reached = g .cache .line-reached;
+          dirty-stored = λ j u d. rw (ne-eqb (at (s .cache .lines) j .frame) (a / 32) (not-held j u)) (g .cache .dirty-stored j u d);
+          dirty-through = λ j u d. rw (ne-eqb (at (s .cache .lines) j .frame) (a / 32) (not-held j u)) (g .cache .dirty-through j u d);
+          one = g .cache .one;
+        };
+        under = λ x u. f x (λ o. g .under x u);
+        words = p;
+        lines = q;
+      }
+
+  module _ (wide : 0 < w) (inside : a < n) (whole : n % 32 ≡ 0) where
+    block-inside : a / 16 * 16 + 16 ≤ n
+    block-inside = omega arith
+
+    half : a % 16 + w ≤ 16
+    half = omega arith
+
+    pub buffered-side : SideAgrees (record { cache = s .cache; backing = buffered (s .backing) (l .address) w v }) (stored w pm (l .address .0) v) (withStore h va l)
+    buffered-side =
+        side-with (buffered (s .backing) (l .address) w v)
+        (below-buffered n (s .backing) (k .backing) pm long w v (byWord h) (byWord (withStore h va l)) (l .address) wide half block-inside)
+        (staged-buffered n (s .backing) (k .backing) pm long w v (byWord h) (byWord (withStore h va l)) (l .address) wide half block-inside (words-stored h va l w fits) (g .words))
+        (staged-buffered n (s .backing) (k .backing) pm long w v (byLine h) (byLine (withStore h va l)) (l .address) wide half block-inside (lines-stored h va l w fits) (g .lines))
+
+    pub direct-side : SideAgrees
+        (record {
+          cache = s .cache;
+          backing = record { memory = stored w (drained (s .backing) .memory) (l .address .0) v; buffer = drained (s .backing) .buffer };
+        })
+        (stored w pm (l .address .0) v) (withStore h va l)
+    direct-side =
+        side-with (record { memory = stored w (drained (s .backing) .memory) (l .address .0) v; buffer = drained (s .backing) .buffer })
+        (below-direct n (s .backing) (k .backing) pm long w v (byWord h) (byWord (withStore h va l)) (l .address) wide half block-inside)
+        (staged-direct n (s .backing) (k .backing) pm long w v (byWord h) (byWord (withStore h va l)) (l .address) wide half block-inside (words-stored h va l w fits) (g .words))
+        (staged-direct n (s .backing) (k .backing) pm long w v (byLine h) (byLine (withStore h va l)) (l .address) wide half block-inside (lines-stored h va l w fits) (g .lines))

@@ -1,0 +1,337 @@
+-- Settled bytes stay settled when entries leave and enter; and what lies below the cache then, by the places of the backing.
+use Prim.Native.Nat.{ℕ, zero, suc, _+_, _-_, _*_, _/_, _%_, _<_, _≤_}
+use native.Mathlib.Omega.{arith}
+use mathlib.Core.Bool.{true, false, cond}
+use mathlib.Core.Path.{_≡_, refl, sym, _∙_, ap, subst}
+use mathlib.Core.List.{List, [], _∷_}
+use lib.Bits.{bitOr}
+use lib.Dec.{eqb, ltb}
+use lib.ListN.{length, length-drop, length-replicate, getD, getD-replicate, set, take, drop, replicate}
+use lib.Seq.{getD-set-same, getD-set-other, getD-take, getD-drop, length-take-le, ext-getD}
+use borrow.Author.Tests.{eqb-true, eqb-false, eq-eqb, ltb-true, ltb-false}
+use Rattle.values.specs.Addresses.{blockOf}
+use Rattle.values.specs.Empty.{emptySlot}
+use Rattle.values.specs.Tests.{bit}
+use Rattle.values.specs.declared.PhysicalAddress.{PhysicalAddress}
+use Rattle.values.specs.declared.Slot.{Slot}
+use Rattle.values.specs.declared.Search.{Search}
+use Rattle.values.specs.declared.Search.the-variants.{At, Nothing}
+use Rattle.values.proofs.Anys.{any-means}
+use Rattle.values.proofs.Cases.{case, clash, and-left, and-right, and-both, or-cases, or-none}
+use Rattle.words.specs.Words.{stored}
+use Rattle.words.proofs.Laws.{byte-before, byte-behind}
+use Rattle.buffer.specs.Buffer.{Backing, slotAt, oldestLeft, drained, behind, pushed, halfPushed, newestOf, maskOf, joined, newSlot, storedAt, buffered, masks, meets, holds}
+use Rattle.buffer.proofs.Joining.{newest-below}
+use Rattle.buffer.proofs.Below.{over, below, laid-slot, empty-masks, Behind, Good, drained-below, drained-memory}
+use Rattle.buffer.proofs.Lengths.{BufferShape, memory-oldest, memory-behind, slot-oldest, used-oldest, slot-drained, slot-behind, slot-other, used-behind, shape-oldest, shape-behind}
+use Rattle.buffer.proofs.StoredBelow.{or-bit, mask-before, mask-in, mask-behind, laidOver, as-stored, newest-block, over-away, half-below, buffered-below}
+use Rattle.soundness.proofs.BackingKept.{BackingIs}
+use Rattle.terms.proofs.Invariant.{SettledAt}
+
+-- byte x is none of the w bytes from a on
+abbrev pub Outside : ℕ → ℕ → ℕ → Type 0
+Outside a w x = a ≤ x → x < a + w → ⊥
+
+-- ---- the places of a backing
+
+-- eight places of sixteen bytes, of which the first `used` hold entries inside a memory of n bytes and the others are empty
+pub record Placed (n : ℕ) (b : Backing) : Type 0 where
+  pub memory-long : length (b .memory) ≡ n
+  pub shape : BufferShape (b .buffer)
+  pub inside : (i : ℕ) → i < b .buffer .used → slotAt (b .buffer) i .block * 16 + 16 ≤ n
+  pub empties : (i : ℕ) → b .buffer .used ≤ i → slotAt (b .buffer) i ≡ emptySlot
+
+-- a sound backing
+pub placed : (n : ℕ) (b : Backing) → BackingIs n b → Placed n b
+placed n b k =
+    record { memory-long = k .memory-long; shape = k .shape; inside = λ i h. k .entries i h .sound .inside; empties = k .empties }
+
+good-of : (u long : ℕ) (l : List Slot) → u ≤ length l → ((i : ℕ) → i < u → length (getD l i emptySlot .bytes) ≡ 16)
+    → ((i : ℕ) → i < u → getD l i emptySlot .block * 16 + 16 ≤ long) → Good u long l
+unfolding Good
+good-of zero long l h f g = tt
+good-of (suc u) long [] h f g = absurd (omega arith)
+good-of (suc u) long (s ∷ ss) h f g =
+    (f 0 (omega arith), g 0 (omega arith), good-of u long ss (omega arith) (λ i p. f (suc i) (omega arith)) (λ i p. g (suc i) (omega arith)))
+
+module _ (n : ℕ) (b : Backing) (k : Placed n b) where
+  -- as the laws of the buffer ask it: the entries are good, and the places behind them are empty
+  good : Good (b .buffer .used) (length (b .memory)) (b .buffer .slots)
+  good =
+      good-of (b .buffer .used) (length (b .memory)) (b .buffer .slots) (omega (arith, k .shape .places, k .shape .low)) (λ i h. k .shape .sixteen i)
+      (λ i h. let e = k .memory-long in let q = k .inside i h in omega arith)
+
+  rest : Behind (b .buffer .slots) (b .buffer .used)
+  rest =
+      let l = b .buffer .slots in
+      let u = b .buffer .used in
+      ext-getD emptySlot (drop u l) (replicate (length l - u) emptySlot) (length-drop u l ∙ sym (length-replicate (length l - u) emptySlot))
+      (λ i h.
+      let q : length (drop u l) ≡ length l - u = length-drop u l in
+      getD-drop u l i emptySlot ∙ k .empties (u + i) (omega arith) ∙ sym (getD-replicate (length l - u) i emptySlot emptySlot (omega arith)))
+
+  -- a place behind the entries masks nothing
+  empty-place : (i x : ℕ) → b .buffer .used ≤ i → masks (slotAt (b .buffer) i) x ≡ false
+  empty-place i x h = ap (λ (s : Slot). masks s x) (k .empties i h) ∙ empty-masks x
+
+  placed-oldest : Placed n (oldestLeft b)
+  placed-oldest =
+      let u = used-oldest b in
+      record {
+        memory-long = memory-oldest b ∙ k .memory-long;
+        shape = shape-oldest b (k .shape);
+        inside = λ i h. rw (slot-oldest b i) (k .inside (suc i) (omega arith));
+        empties = λ i h. slot-oldest b i ∙ k .empties (suc i) (omega arith);
+      }
+
+  placed-behind : (s : Slot) → b .buffer .used < 8 → s .block * 16 + 16 ≤ n → length (s .bytes) ≡ 16 → Placed n (behind b s)
+  placed-behind s low h long =
+      let u = b .buffer .used in
+      let v = used-behind b s in
+      record {
+        memory-long = ap length (memory-behind b s) ∙ k .memory-long;
+        shape = shape-behind b s low long (k .shape);
+        inside = λ i g.
+            case (eqb i u)
+            (λ t. let e : i ≡ u = eqb-true i u t in rw (e, slot-behind b s (omega (arith, k .shape .places))) h)
+            (λ t. let e = eqb-false i u t in rw (slot-other b s i e) (k .inside i (before i (rw v at g) e)));
+        empties = λ i g. let g′ : u + 1 ≤ i = rw v at g in slot-other b s i (after i g′) ∙ k .empties i (omega arith);
+      }
+    where
+      before : (i : ℕ) → i < b .buffer .used + 1 → (i ≡ b .buffer .used → ⊥) → i < b .buffer .used
+      before i g e = omega arith
+
+      after : (i : ℕ) → b .buffer .used + 1 ≤ i → i ≡ b .buffer .used → ⊥
+      after i g e = omega arith
+
+placed-pushed : (n : ℕ) (b : Backing) (k : Placed n b) (s : Slot) → s .block * 16 + 16 ≤ n → length (s .bytes) ≡ 16 → Placed n (pushed b s)
+unfolding pushed
+placed-pushed n b k s h long =
+    let u = used-oldest b in
+    let l = k .shape .low in
+    case (ltb (b .buffer .used) 8)
+    (λ t. rw t (placed-behind n b k s (ltb-true (b .buffer .used) 8 t) h long))
+    (λ t. rw t (placed-behind n (oldestLeft b) (placed-oldest n b k) s (omega arith) h long))
+
+-- ---- what lies below the cache
+
+-- entries over a byte, when each that masks it holds the same
+over-same : (l : List Slot) (x y v : ℕ) → y ≡ v → ((j : ℕ) → masks (getD l j emptySlot) x ≡ true → getD (getD l j emptySlot .bytes) (x % 16) 0 ≡ v)
+    → over l x y ≡ v
+unfolding over
+over-same [] x y v e f = e
+over-same (s ∷ ss) x y v e f =
+    over-same ss x (cond (masks s x) (getD (s .bytes) (x % 16) 0) y) v (case (masks s x) (λ t. rw t (f 0 t)) (λ t. rw t e)) (λ j. f (suc j))
+
+pub settled-over : (b : Backing) (pm : List ℕ) (x : ℕ) → SettledAt b pm x → below b x ≡ getD pm x 0
+settled-over b pm x s = over-same (b .buffer .slots) x (getD (b .memory) x 0) (getD pm x 0) (s .in-memory) (s .in-entries)
+
+-- the plain machine's memory may change elsewhere
+pub settled-same : (b : Backing) (pm qm : List ℕ) (x : ℕ) → getD pm x 0 ≡ getD qm x 0 → SettledAt b pm x → SettledAt b qm x
+settled-same b pm qm x e s = record { in-memory = s .in-memory ∙ e; in-entries = λ j t. s .in-entries j t ∙ e }
+
+-- ---- a drain
+
+module _ (n : ℕ) (b : Backing) (k : Placed n b) where
+  pub drained-over : (x : ℕ) → below (drained b) x ≡ below b x
+  drained-over x = drained-below b (good n b k) x
+
+  pub drained-byte : (x : ℕ) → getD (drained b .memory) x 0 ≡ below b x
+  drained-byte x = drained-memory b (good n b k) (omega (arith, k .shape .places, k .shape .low)) (rest n b k) x
+
+  -- no place masks a byte
+  pub drained-none : (j x : ℕ) → masks (slotAt (drained b .buffer) j) x ≡ false
+  drained-none j x = ap (λ (s : Slot). masks s x) (slot-drained b j) ∙ empty-place n b k (b .buffer .used + j) x (omega arith)
+
+-- ---- a read that no entry meets
+
+-- no byte read is masked
+meets-none : (c a x : ℕ) (s : Slot) → meets c a s ≡ false → a ≤ x → x < a + c → masks s x ≡ false
+unfolding meets
+meets-none zero a x s e h l = absurd (omega arith)
+meets-none (suc c) a x s e h l =
+    let q = or-none (masks s a) (meets c (a + 1) s) e in
+    case (eqb a x)
+    (λ t. let r : a ≡ x = eqb-true a x t in subst (λ (y : ℕ). masks s y ≡ false) r (q .0))
+    (λ t. meets-none c (a + 1) x s (q .1) (next (eqb-false a x t)) (omega arith))
+  where
+    next : (a ≡ x → ⊥) → a + 1 ≤ x
+    next r = omega arith
+
+-- what lies below the cache is memory's byte
+pub unmet-below : (n : ℕ) (b : Backing) (k : Placed n b) (a c x : ℕ) → holds (b .buffer) a c ≡ false → a ≤ x → x < a + c → getD (b .memory) x 0 ≡ below b x
+unfolding holds
+unmet-below n b k a c x e h l =
+    let u = b .buffer .used in
+    let ss = b .buffer .slots in
+    let long : length (take u ss) ≡ u = length-take-le u ss (omega (arith, k .shape .places, k .shape .low)) in
+    sym
+    (over-away ss x (getD (b .memory) x 0)
+    (λ j g.
+    case (ltb j u)
+    (λ t.
+    let q = ltb-true j u t in
+    meets-none c a x (slotAt (b .buffer) j)
+    (ap (meets c a) (sym (getD-take u ss j emptySlot q)) ∙ any-means (meets c a) emptySlot (take u ss) e j (omega arith)) h l)
+    (λ t. empty-place n b k j x (ltb-false j u t))))
+
+-- ---- an entry pushed
+
+module _ (n : ℕ) (b : Backing) (k : Placed n b) (pm : List ℕ) (x : ℕ) (s : SettledAt b pm x) where
+  settled-oldest : 0 < b .buffer .used → SettledAt (oldestLeft b) pm x
+  unfolding oldestLeft
+  settled-oldest h =
+      let o = slotAt (b .buffer) 0 in
+      record {
+        in-memory =
+            laid-slot o (b .memory) x (k .shape .sixteen 0) (let e = k .memory-long in let i = k .inside 0 h in omega arith)
+            ∙ case (masks o x) (λ t. rw t (s .in-entries 0 t)) (λ t. rw t (s .in-memory));
+        in-entries = λ j t.
+            ap (λ (r : Slot). getD (r .bytes) (x % 16) 0) (slot-oldest b j)
+            ∙ s .in-entries (suc j) (ap (λ (r : Slot). masks r x) (sym (slot-oldest b j)) ∙ t);
+      }
+
+  module _ (new : Slot) (f : masks new x ≡ true → getD (new .bytes) (x % 16) 0 ≡ getD pm x 0) where
+    settled-behind : b .buffer .used < 8 → SettledAt (behind b new) pm x
+    settled-behind h =
+        let u = b .buffer .used in
+        record {
+          in-memory = ap (λ (m : List ℕ). getD m x 0) (memory-behind b new) ∙ s .in-memory;
+          in-entries = λ j t.
+              case (eqb j u)
+              (λ v.
+              let e : slotAt (behind b new .buffer) j ≡ new = ap (slotAt (behind b new .buffer)) (eqb-true j u v) ∙ slot-behind b new (omega (arith, k .shape .places)) in
+              ap (λ (r : Slot). getD (r .bytes) (x % 16) 0) e ∙ f (ap (λ (r : Slot). masks r x) (sym e) ∙ t))
+              (λ v.
+              let e : slotAt (behind b new .buffer) j ≡ slotAt (b .buffer) j = slot-other b new j (eqb-false j u v) in
+              ap (λ (r : Slot). getD (r .bytes) (x % 16) 0) e ∙ s .in-entries j (ap (λ (r : Slot). masks r x) (sym e) ∙ t));
+        }
+
+settled-pushed : (n : ℕ) (b : Backing) (k : Placed n b) (pm : List ℕ) (x : ℕ) → SettledAt b pm x → (new : Slot)
+    → (masks new x ≡ true → getD (new .bytes) (x % 16) 0 ≡ getD pm x 0) → SettledAt (pushed b new) pm x
+unfolding pushed
+settled-pushed n b k pm x s new f =
+    let u = used-oldest b in
+    let l = k .shape .low in
+    case (ltb (b .buffer .used) 8)
+    (λ t. rw t (settled-behind n b k pm x s new f (ltb-true (b .buffer .used) 8 t)))
+    (λ t.
+    let q = ltb-false (b .buffer .used) 8 t in
+    rw t (settled-behind n (oldestLeft b) (placed-oldest n b k) pm x (settled-oldest n b k pm x s (omega arith)) new f (omega arith)))
+
+-- ---- a half pushed
+
+module _ (n : ℕ) (b : Backing) (k : Placed n b) (block : ℕ) (bytes : List ℕ) where
+  pub half-over : (x : ℕ) → below (halfPushed b block bytes) x ≡ cond (eqb (x / 16) block) (getD bytes (x % 16) 0) (below b x)
+  half-over x = half-below (b .memory) (b .buffer .slots) (b .buffer .used) (k .shape .places) (k .shape .low) (rest n b k) (good n b k) block bytes x
+
+  pub placed-half : block * 16 + 16 ≤ n → length bytes ≡ 16 → Placed n (halfPushed b block bytes)
+  unfolding halfPushed
+  placed-half h long = placed-pushed n b k (record { block = block; mask = 65535; bytes = bytes }) h long
+
+  pub settled-half : (pm : List ℕ) (x : ℕ) → (x / 16 ≡ block → getD bytes (x % 16) 0 ≡ getD pm x 0) → SettledAt b pm x → SettledAt (halfPushed b block bytes) pm x
+  unfolding halfPushed
+  settled-half pm x h s =
+      settled-pushed n b k pm x s (record { block = block; mask = 65535; bytes = bytes })
+      (λ t. h (eqb-true (x / 16) block (and-left (eqb (x / 16) block) (bit 65535 (x % 16)) t)))
+
+-- ---- a store buffered
+
+-- a byte outside a store is as it was
+pub outside-stored : (w : ℕ) (m : List ℕ) (a v x : ℕ) → Outside a w x → getD (stored w m a v) x 0 ≡ getD m x 0
+outside-stored w m a v x o =
+    case (ltb x a)
+    (λ t. byte-before w m a v x (ltb-true x a t))
+    (λ t.
+    case (ltb x (a + w))
+    (λ u. absurd (o (ltb-false x a t) (ltb-true x (a + w) u)))
+    (λ u. byte-behind w m a v x (ltb-false x (a + w) u)))
+
+module _ (a w v : ℕ) (fits : a % 16 + w ≤ 16) (x : ℕ) where
+  -- the mask of a store, and a new entry of it, have the bytes of the store alone
+  mask-outside : Outside a w x → x / 16 ≡ a / 16 → bit (maskOf w (a % 16)) (x % 16) ≡ false
+  mask-outside o e =
+      case (ltb (x % 16) (a % 16))
+      (λ t. mask-before w (a % 16) (x % 16) (ltb-true (x % 16) (a % 16) t))
+      (λ t.
+      case (ltb (x % 16) (a % 16 + w))
+      (λ u.
+      let p = ltb-false (x % 16) (a % 16) t in
+      let q = ltb-true (x % 16) (a % 16 + w) u in
+      absurd (o (omega arith) (omega arith)))
+      (λ u. mask-behind w (a % 16) (x % 16) (ltb-false (x % 16) (a % 16 + w) u)))
+
+  new-outside : Outside a w x → masks (newSlot (a / 16) w (a % 16) v) x ≡ false
+  new-outside o =
+      case (eqb (x / 16) (a / 16))
+      (λ t. rw t (mask-outside o (eqb-true (x / 16) (a / 16) t)))
+      (λ t. rw t)
+
+  new-inside : masks (newSlot (a / 16) w (a % 16) v) x ≡ false → Outside a w x
+  new-inside e h l =
+      let q : x / 16 ≡ a / 16 = omega arith in
+      clash (rw (eq-eqb (x / 16) (a / 16) q) (mask-in w (a % 16) (x % 16) (omega arith) (omega arith))) e
+
+  -- an entry of the block, joined, masks the bytes outside the store that it masked, and holds what it held
+  module _ (s : Slot) (same : s .block ≡ a / 16) (o : Outside a w x) where
+    joined-masks : masks (joined s w (a % 16) v) x ≡ true → masks s x ≡ true
+    unfolding joined
+    joined-masks t =
+        let here = eqb (x / 16) (s .block) in
+        let p : here ≡ true = and-left here (bit (bitOr (s .mask) (maskOf w (a % 16))) (x % 16)) t in
+        let q = and-right here (bit (bitOr (s .mask) (maskOf w (a % 16))) (x % 16)) t in
+        let m = mask-outside o (eqb-true (x / 16) (s .block) p ∙ same) in
+        and-both here (bit (s .mask) (x % 16)) p
+        (or-cases (bit (s .mask) (x % 16)) (bit (maskOf w (a % 16)) (x % 16)) (sym (or-bit (s .mask) (maskOf w (a % 16)) (x % 16)) ∙ q) (λ y. y) (λ y. clash y m))
+
+    joined-byte : masks (joined s w (a % 16) v) x ≡ true → getD (joined s w (a % 16) v .bytes) (x % 16) 0 ≡ getD (s .bytes) (x % 16) 0
+    unfolding joined
+    joined-byte t =
+        let e : x / 16 ≡ a / 16 = eqb-true (x / 16) (s .block) (and-left (eqb (x / 16) (s .block)) (bit (bitOr (s .mask) (maskOf w (a % 16))) (x % 16)) t) ∙ same in
+        outside-stored w (s .bytes) (a % 16) v (x % 16) (λ h l. o (omega arith) (omega arith))
+
+pub settled-buffered : (n : ℕ) (b : Backing) (k : Placed n b) (pm : List ℕ) (pa : PhysicalAddress) (w v x : ℕ) → pa .0 % 16 + w ≤ 16
+    → Outside (pa .0) w x → SettledAt b pm x → SettledAt (buffered b pa w v) pm x
+unfolding buffered
+settled-buffered n b k pm pa w v x fits o s = by (newestOf (b .buffer .slots) (blockOf pa) (b .buffer .used)) refl
+  where
+    by : (y : Search) → newestOf (b .buffer .slots) (blockOf pa) (b .buffer .used) ≡ y → SettledAt (storedAt b (blockOf pa) w (pa .0 % 16) v y) pm x
+    by Nothing e =
+        settled-pushed n b k pm x s (newSlot (blockOf pa) w (pa .0 % 16) v) (λ t. clash t (new-outside (pa .0) w v fits x o))
+    by (At i) e =
+        let l = b .buffer .slots in
+        let old = slotAt (b .buffer) i in
+        let new = joined old w (pa .0 % 16) v in
+        let low = newest-below l (blockOf pa) (b .buffer .used) i e in
+        let same : old .block ≡ blockOf pa = newest-block l (blockOf pa) (b .buffer .used) i e in
+        record {
+          in-memory = s .in-memory;
+          in-entries = λ j t.
+              case (eqb j i)
+              (λ u.
+              let q : getD (set l i new) j emptySlot ≡ new = ap (λ (y : ℕ). getD (set l i new) y emptySlot) (eqb-true j i u) ∙ getD-set-same l i new emptySlot (omega (arith, k .shape .places, k .shape .low)) in
+              let m : masks new x ≡ true = ap (λ (r : Slot). masks r x) (sym q) ∙ t in
+              ap (λ (r : Slot). getD (r .bytes) (x % 16) 0) q ∙ joined-byte (pa .0) w v fits x old same o m
+              ∙ s .in-entries i (joined-masks (pa .0) w v fits x old same o m))
+              (λ u.
+              let q : getD (set l i new) j emptySlot ≡ slotAt (b .buffer) j = getD-set-other l i j new emptySlot (eqb-false j i u) in
+              ap (λ (r : Slot). getD (r .bytes) (x % 16) 0) q ∙ s .in-entries j (ap (λ (r : Slot). masks r x) (sym q) ∙ t));
+        }
+
+pub buffered-over : (n : ℕ) (b : Backing) (k : Placed n b) (pa : PhysicalAddress) (w v x : ℕ) → pa .0 % 16 + w ≤ 16
+    → below (buffered b pa w v) x ≡ laidOver (newSlot (blockOf pa) w (pa .0 % 16) v) x (below b x)
+buffered-over n b k pa w v x fits =
+    buffered-below (b .memory) (b .buffer .slots) (b .buffer .used) (k .shape .places) (k .shape .low) (rest n b k) (good n b k) pa w v x fits
+
+-- over what lies below the cache, a new entry of a store gives what the store to the plain machine's memory gives
+pub new-stored : (pm : List ℕ) (a w v x y : ℕ) → a % 16 + w ≤ 16 → a + w ≤ length pm → (Outside a w x → y ≡ getD pm x 0)
+    → laidOver (newSlot (a / 16) w (a % 16) v) x y ≡ getD (stored w pm a v) x 0
+new-stored pm a w v x y fits long h =
+    let s = newSlot (a / 16) w (a % 16) v in
+    case (masks s x)
+    (λ t. same s y (getD pm x 0) t)
+    (λ t. ap (λ (z : ℕ). laidOver s x z) (h (new-inside a w v fits x t)))
+    ∙ as-stored pm a w v x fits long
+  where
+    same : (s : Slot) (y z : ℕ) → masks s x ≡ true → laidOver s x y ≡ laidOver s x z
+    same s y z t = rw t
