@@ -1,5 +1,6 @@
 //! Prints a table of times: the proved library beside the second model, measured in turn in one process.
 
+mod calls;
 mod measure;
 mod soundness;
 
@@ -27,7 +28,9 @@ fn main() {
     };
     let mut lines: Vec<Line> = Vec::new();
     lines.extend(soundness::lines());
-    println!("{WHAT}\n{rounds} rounds, library and model in turn\n");
+    lines.extend(calls::lines());
+    println!("{WHAT}\n{}", calls::WHAT);
+    println!("{rounds} rounds, library and model in turn\n");
     println!(
         "{:<28}{:>18}{:>18}{:>8}",
         "ns a call", "library", "model", "ratio"

@@ -2,12 +2,13 @@
 
 use std::fmt;
 
-/// One side of a line: makes so many calls.
+/// One side of a line: takes so many turns.
 pub type Side = Box<dyn FnMut(usize)>;
 
-/// A line of the table: what is measured, by the library and by the model.
+/// A line of the table: what is measured, by the library and by the model. A turn makes `calls` calls.
 pub struct Line {
     pub name: String,
+    pub calls: usize,
     pub library: Side,
     pub model: Side,
 }
@@ -55,46 +56,48 @@ fn nanoseconds() -> u64 {
 
 /// Measures library and model, one round each in turn; each goes first in every second round.
 pub fn measure(line: &mut Line, rounds: usize) -> (Times, Times) {
-    let library_calls = calls_a_round(&mut line.library);
-    let model_calls = calls_a_round(&mut line.model);
+    let library_turns = turns_a_round(&mut line.library);
+    let model_turns = turns_a_round(&mut line.model);
     let mut library = Vec::with_capacity(rounds);
     let mut model = Vec::with_capacity(rounds);
     for round in 0..rounds {
         if round % 2 == 0 {
-            library.push(round_of(&mut line.library, library_calls));
-            model.push(round_of(&mut line.model, model_calls));
+            library.push(round_of(&mut line.library, library_turns));
+            model.push(round_of(&mut line.model, model_turns));
         } else {
-            model.push(round_of(&mut line.model, model_calls));
-            library.push(round_of(&mut line.library, library_calls));
+            model.push(round_of(&mut line.model, model_turns));
+            library.push(round_of(&mut line.library, library_turns));
         }
     }
-    (times(library), times(model))
+    let calls = line.calls as f64;
+    (times(library, calls), times(model, calls))
 }
 
-/// How many calls take as long as a round, after some that warm up.
-fn calls_a_round(side: &mut Side) -> usize {
-    let mut calls = 1;
+/// How many turns take as long as a round, after some that warm up.
+fn turns_a_round(side: &mut Side) -> usize {
+    let mut turns = 1;
     loop {
         let start = nanoseconds();
-        side(calls);
+        side(turns);
         if nanoseconds() - start >= ROUND {
-            return calls;
+            return turns;
         }
-        calls *= 2;
+        turns *= 2;
     }
 }
 
-/// Nanoseconds a call in one round.
-fn round_of(side: &mut Side, calls: usize) -> f64 {
+/// Nanoseconds a turn in one round.
+fn round_of(side: &mut Side, turns: usize) -> f64 {
     let start = nanoseconds();
-    side(calls);
-    (nanoseconds() - start) as f64 / calls as f64
+    side(turns);
+    (nanoseconds() - start) as f64 / turns as f64
 }
 
-fn times(mut rounds: Vec<f64>) -> Times {
-    rounds.sort_by(f64::total_cmp);
+/// The times of a call, from those of turns of so many calls.
+fn times(mut turns: Vec<f64>, calls: f64) -> Times {
+    turns.sort_by(f64::total_cmp);
     Times {
-        least: rounds[0],
-        median: rounds[rounds.len() / 2],
+        least: turns[0] / calls,
+        median: turns[turns.len() / 2] / calls,
     }
 }

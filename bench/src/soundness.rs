@@ -24,6 +24,7 @@ fn line(tags: Tags) -> Line {
     };
     Line {
         name: name.to_string(),
+        calls: 1,
         library: Box::new(move |calls| {
             for _ in 0..calls {
                 black_box(sound(&black_box(&packed).lent(), n));

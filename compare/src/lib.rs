@@ -1,7 +1,10 @@
 //! The proved library's exported functions, wrapped for Rust.
 
+pub mod calls;
+pub mod damage;
 pub mod full;
 pub mod packed;
+pub mod side_by_side;
 
 use sa110_model::Call;
 
@@ -61,17 +64,22 @@ pub fn numbers(calls: &[Call]) -> Vec<u32> {
     calls.iter().flat_map(|call| call.to_numbers()).collect()
 }
 
-/// The list with as many calls dropped, one by one, as leave the test failing.
-pub fn shrunk(calls: &[Call], fails: impl Fn(&[Call]) -> bool) -> Vec<Call> {
+/// The list with calls dropped, first in long pieces and last one by one, while the test still fails.
+pub fn shrunk<T: Clone>(calls: &[T], fails: impl Fn(&[T]) -> bool) -> Vec<T> {
     let mut kept = calls.to_vec();
-    let mut at = 0;
-    while at < kept.len() {
-        let call = kept.remove(at);
-        if fails(&kept) {
-            continue;
+    let mut size = kept.len();
+    while size > 0 {
+        let mut at = 0;
+        while at < kept.len() {
+            let end = (at + size).min(kept.len());
+            let shorter = [&kept[..at], &kept[end..]].concat();
+            if fails(&shorter) {
+                kept = shorter;
+            } else {
+                at = end;
+            }
         }
-        kept.insert(at, call);
-        at += 1;
+        size /= 2;
     }
     kept
 }

@@ -1,12 +1,12 @@
-//! A state as the proved library is lent it: small structs, and lists of packed words.
+//! A state as the proved library has it: small structs, and lists of packed words.
 
-use sa110_model::state::{Counts, Line, PlainRegisters, Registers, Slot, State, TlbEntry};
+use sa110_model::state::{self, Line, PlainRegisters, Registers, Slot, TlbEntry};
 use sa110_model::state::{BLOCK_BYTES, BUFFER_ENTRIES, LINES, SETS, TLB_ENTRIES};
 
 /// The small record: the five registers and the TLB pointer.
 #[repr(C)]
 #[derive(Clone, Copy, Debug, Default, PartialEq, Eq)]
-pub struct LentRecord {
+pub struct Cp15 {
     pub control: u32,
     pub base: u32,
     pub domains: u32,
@@ -18,7 +18,7 @@ pub struct LentRecord {
 /// The five counts.
 #[repr(C)]
 #[derive(Clone, Copy, Debug, Default, PartialEq, Eq)]
-pub struct LentCounts {
+pub struct Counts {
     pub calls: u32,
     pub misses: u32,
     pub hits: u32,
@@ -28,8 +28,8 @@ pub struct LentCounts {
 
 extern "C" {
     fn sa110_sound(
-        cp15: LentRecord,
-        counts: LentCounts,
+        cp15: Cp15,
+        counts: Counts,
         entries: *const u64,
         entries_length: usize,
         lines: *const u64,
@@ -48,8 +48,8 @@ extern "C" {
 /// What a state is lent as. The lists may have any lengths.
 #[derive(Clone, Copy, Debug, PartialEq, Eq)]
 pub struct Lent<'a> {
-    pub record: LentRecord,
-    pub counts: LentCounts,
+    pub cp15: Cp15,
+    pub counts: Counts,
     pub entries: &'a [u64],
     pub lines: &'a [u64],
     pub pointers: &'a [u32],
@@ -63,7 +63,7 @@ pub struct Lent<'a> {
 pub fn sound(lent: &Lent, n: usize) -> u32 {
     unsafe {
         sa110_sound(
-            lent.record,
+            lent.cp15,
             lent.counts,
             lent.entries.as_ptr(),
             lent.entries.len(),
@@ -81,17 +81,27 @@ pub fn sound(lent: &Lent, n: usize) -> u32 {
     }
 }
 
-/// A state in packed words.
+/// A state in packed words: `size` is the memory's length at the start, `used` the number of buffer
+/// entries.
+#[repr(C)]
 #[derive(Clone, Debug, PartialEq, Eq)]
-pub struct Packed {
-    pub record: LentRecord,
-    pub counts: LentCounts,
+pub struct State {
+    pub size: usize,
+    pub counts: Counts,
+    pub used: usize,
     pub entries: [u64; TLB_ENTRIES],
     pub lines: [u64; LINES],
     pub pointers: [u32; SETS],
     pub words: [u64; BUFFER_ENTRIES],
     pub bytes: [[u8; BLOCK_BYTES]; BUFFER_ENTRIES],
-    pub used: usize,
+}
+
+/// A state and its record.
+#[repr(C)]
+#[derive(Clone, Debug, PartialEq, Eq)]
+pub struct Packed {
+    pub state: State,
+    pub cp15: Cp15,
 }
 
 /// A TLB entry: bit 0 valid, 1 C, 2 B, 3 to 7 size, 8 to 15 domain, 16 to 23 AP0 to AP3, 24 to 43
@@ -165,10 +175,26 @@ fn field(w: u64, first: usize, bits: u32) -> u32 {
 }
 
 impl Packed {
-    pub fn of(state: &State, registers: &Registers) -> Packed {
+    pub fn of(state: &state::State, registers: &Registers) -> Packed {
         let (r, c) = (&registers.plain, &state.counts);
         Packed {
-            record: LentRecord {
+            state: State {
+                size: state.memory_length as usize,
+                counts: Counts {
+                    calls: c.calls,
+                    misses: c.tlb_misses,
+                    hits: c.hits,
+                    fills: c.fills,
+                    halves: c.halves,
+                },
+                used: state.buffer.entries as usize,
+                entries: std::array::from_fn(|i| entry_word(&state.tlb[i])),
+                lines: std::array::from_fn(|i| line_word(&state.cache.lines[i])),
+                pointers: state.cache.pointers,
+                words: std::array::from_fn(|i| slot_word(&state.buffer.slots[i])),
+                bytes: std::array::from_fn(|i| state.buffer.slots[i].bytes),
+            },
+            cp15: Cp15 {
                 control: r.control,
                 base: r.table_base,
                 domains: r.domain,
@@ -176,33 +202,21 @@ impl Packed {
                 far: r.far,
                 pointer: registers.tlb_pointer,
             },
-            counts: LentCounts {
-                calls: c.calls,
-                misses: c.tlb_misses,
-                hits: c.hits,
-                fills: c.fills,
-                halves: c.halves,
-            },
-            entries: std::array::from_fn(|i| entry_word(&state.tlb[i])),
-            lines: std::array::from_fn(|i| line_word(&state.cache.lines[i])),
-            pointers: state.cache.pointers,
-            words: std::array::from_fn(|i| slot_word(&state.buffer.slots[i])),
-            bytes: std::array::from_fn(|i| state.buffer.slots[i].bytes),
-            used: state.buffer.entries as usize,
         }
     }
 
-    /// The second model's state and record. No word holds the memory's length at the start.
-    pub fn unpacked(&self, memory_length: u32) -> (State, Registers) {
-        let (r, c) = (&self.record, &self.counts);
-        let mut state = State::ZERO;
-        state.memory_length = memory_length;
-        state.tlb = self.entries.map(entry_of);
-        state.cache.lines = self.lines.map(line_of);
-        state.cache.pointers = self.pointers;
-        state.buffer.entries = self.used.try_into().unwrap_or(u32::MAX);
-        state.buffer.slots = std::array::from_fn(|i| slot_of(self.words[i], self.bytes[i]));
-        state.counts = Counts {
+    /// The second model's state and record. A size or number of buffer entries that it has no place
+    /// for becomes the largest that it has.
+    pub fn unpacked(&self) -> (state::State, Registers) {
+        let (p, r, c) = (&self.state, &self.cp15, &self.state.counts);
+        let mut state = state::State::ZERO;
+        state.memory_length = narrow(p.size);
+        state.tlb = p.entries.map(entry_of);
+        state.cache.lines = p.lines.map(line_of);
+        state.cache.pointers = p.pointers;
+        state.buffer.entries = narrow(p.used);
+        state.buffer.slots = std::array::from_fn(|i| slot_of(p.words[i], p.bytes[i]));
+        state.counts = state::Counts {
             calls: c.calls,
             tlb_misses: c.misses,
             hits: c.hits,
@@ -221,15 +235,20 @@ impl Packed {
     }
 
     pub fn lent(&self) -> Lent<'_> {
+        let state = &self.state;
         Lent {
-            record: self.record,
-            counts: self.counts,
-            entries: &self.entries,
-            lines: &self.lines,
-            pointers: &self.pointers,
-            words: &self.words,
-            bytes: &self.bytes,
-            used: self.used,
+            cp15: self.cp15,
+            counts: state.counts,
+            entries: &state.entries,
+            lines: &state.lines,
+            pointers: &state.pointers,
+            words: &state.words,
+            bytes: &state.bytes,
+            used: state.used,
         }
     }
+}
+
+fn narrow(x: usize) -> u32 {
+    x.try_into().unwrap_or(u32::MAX)
 }

@@ -1,0 +1,416 @@
+//! Library and second model side by side: the same calls from the same place, with everything that
+//! they answer and leave compared.
+
+use crate::calls::NO_CALL;
+use crate::packed::Packed;
+use crate::shrunk;
+use sa110_model::answers::STATUSES;
+use sa110_model::calls::FIELDS;
+use sa110_model::coverage::{Coverage, Unwatched, Watch};
+use sa110_model::library::{self, RunError};
+use sa110_model::refusals;
+use sa110_model::{Answer, Call, Machine};
+use std::fmt;
+use std::fmt::Write;
+
+/// A call in five numbers, or numbers that are no call.
+pub type Numbers = [u32; FIELDS];
+
+/// What both sides begin with.
+#[derive(Clone)]
+pub struct Setting {
+    pub packed: Packed,
+    pub memory: Vec<u8>,
+    pub store: Vec<u8>,
+}
+
+impl Setting {
+    pub fn of(machine: &Machine) -> Setting {
+        Setting {
+            packed: Packed::of(&machine.state, &machine.registers),
+            memory: machine.memory.clone(),
+            store: machine.store.clone(),
+        }
+    }
+
+    /// What a start leaves, refused or not. Both sides' starts are compared.
+    pub fn start(memory: Vec<u8>, store: Vec<u8>) -> Setting {
+        let (packed, refusal) = Packed::start(&memory, &store);
+        let started = library::start(&memory, &store);
+        let lengths = format!(
+            "start, memory {} bytes, store {} bytes",
+            memory.len(),
+            store.len()
+        );
+        assert_eq!(refusal, started.refused.unwrap_or(0), "{lengths}");
+        let model = Packed::of(&started.state, &started.registers);
+        assert_eq!(difference(&packed, &model), None, "{lengths}");
+        Setting {
+            packed,
+            memory,
+            store,
+        }
+    }
+
+    fn machine(&self) -> Machine {
+        let (state, registers) = self.packed.unpacked();
+        Machine {
+            state: Box::new(state),
+            registers,
+            memory: self.memory.clone(),
+            store: self.store.clone(),
+        }
+    }
+}
+
+/// The two sides after some calls.
+pub struct Sides {
+    pub proved: Setting,
+    pub model: Machine,
+}
+
+impl Sides {
+    pub fn of(setting: &Setting) -> Sides {
+        Sides {
+            proved: setting.clone(),
+            model: setting.machine(),
+        }
+    }
+
+    /// A call on both sides; gives the answer's code, or what differs.
+    pub fn call<T: Watch>(&mut self, numbers: &Numbers, watch: &mut T) -> Result<u64, String> {
+        let before = self.proved.packed.clone();
+        let p = &mut self.proved;
+        let code = p.packed.call(&mut p.memory, &mut p.store, numbers);
+        let (expected, left) = match Call::from_numbers(numbers) {
+            None => (NO_CALL, before),
+            Some(call) => {
+                let answer = self.model.call_watched(&call, watch);
+                watch.note_answer(&answer);
+                let left = match answer {
+                    Answer::Refused(_) => before,
+                    _ => self.packed_model(),
+                };
+                (answer.as_number(), left)
+            }
+        };
+        if code != expected {
+            return Err(format!("proved {code:X}, model {expected:X}"));
+        }
+        match difference(&self.proved.packed, &left) {
+            Some(what) => Err(what),
+            None => Ok(code),
+        }
+    }
+
+    /// A run on both sides, of as many calls as both lists hold; gives how many were made, or what
+    /// differs.
+    pub fn run(&mut self, calls: &[u32], answers: &mut [u64]) -> Result<usize, String> {
+        let n = (calls.len() / FIELDS).min(answers.len());
+        let mut expected = answers.to_vec();
+        let before = self.proved.packed.clone();
+        let p = &mut self.proved;
+        let made = p.packed.run(&mut p.memory, &mut p.store, calls, answers);
+        let m = &mut self.model;
+        let refused = refusals::of_lent(&m.state, &m.registers, m.memory.len(), m.store.len());
+        let ran = library::run(
+            &mut m.state,
+            &mut m.registers,
+            &mut m.memory,
+            &mut m.store,
+            &calls[..n * FIELDS],
+            &mut expected[..n],
+        );
+        let expected_made = match ran {
+            Ok(()) => n,
+            Err(RunError::NotACall(i)) => i,
+            Err(RunError::Lengths) => unreachable!("one answer a call"),
+        };
+        if made != expected_made {
+            return Err(format!("{made} calls proved, {expected_made} by the model"));
+        }
+        if let Some(what) = first("answer", answers, &expected) {
+            return Err(what);
+        }
+        let left = match refused {
+            Some(_) => before,
+            None => self.packed_model(),
+        };
+        match difference(&self.proved.packed, &left) {
+            Some(what) => Err(what),
+            None => Ok(made),
+        }
+    }
+
+    /// Compares memory and store.
+    pub fn bytes(&self) -> Result<(), String> {
+        let (p, m) = (&self.proved, &self.model);
+        let pairs = [
+            ("memory at", &p.memory, &m.memory),
+            ("store at", &p.store, &m.store),
+        ];
+        for (name, proved, model) in pairs {
+            if proved != model {
+                return Err(first(name, proved, model).expect("they differ"));
+            }
+        }
+        Ok(())
+    }
+
+    fn packed_model(&self) -> Packed {
+        Packed::of(&self.model.state, &self.model.registers)
+    }
+}
+
+/// What differs between two states and records, the first place of each list.
+fn difference(proved: &Packed, model: &Packed) -> Option<String> {
+    if proved == model {
+        return None;
+    }
+    let (p, m) = (&proved.state, &model.state);
+    let parts = [
+        first("registers", &[proved.cp15], &[model.cp15]),
+        first("counts", &[p.counts], &[m.counts]),
+        first("size", &[p.size], &[m.size]),
+        first("number of buffer entries", &[p.used], &[m.used]),
+        first("TLB entry", &p.entries, &m.entries),
+        first("line", &p.lines, &m.lines),
+        first("pointer of set", &p.pointers, &m.pointers),
+        first("buffer word", &p.words, &m.words),
+        first("bytes of buffer entry", &p.bytes, &m.bytes),
+    ];
+    Some(parts.into_iter().flatten().collect::<Vec<_>>().join("; "))
+}
+
+/// The first place where two lists of one length differ.
+fn first<T: PartialEq + fmt::Debug>(name: &str, proved: &[T], model: &[T]) -> Option<String> {
+    let i = proved.iter().zip(model).position(|(p, m)| p != m)?;
+    let at = if proved.len() > 1 {
+        format!(" {i:X}")
+    } else {
+        String::new()
+    };
+    let (p, m) = (&proved[i], &model[i]);
+    Some(format!("{name}{at}: proved {p:X?}, model {m:X?}"))
+}
+
+/// How often each kind of answer was compared.
+#[derive(Clone, Default)]
+pub struct Met {
+    pub calls: u64,
+    statuses: [u64; 16],
+    refusals: [u64; 13],
+    no_calls: u64,
+}
+
+impl Met {
+    fn note(&mut self, code: u64) {
+        self.calls += 1;
+        match code >> 32 {
+            0 => {}
+            1 => self.statuses[code as usize % 16] += 1,
+            2 => self.refusals[code as u32 as usize] += 1,
+            _ => self.no_calls += 1,
+        }
+    }
+
+    fn add(&mut self, other: &Met) {
+        self.calls += other.calls;
+        self.no_calls += other.no_calls;
+        let statuses = self.statuses.iter_mut().zip(other.statuses);
+        let refusals = self.refusals.iter_mut().zip(other.refusals);
+        for (sum, count) in statuses.chain(refusals) {
+            *sum += count;
+        }
+    }
+
+    fn rows(&self) -> Vec<(String, u64)> {
+        let mut rows = vec![("numbers that are no call".to_string(), self.no_calls)];
+        for number in 1..=12 {
+            rows.push((format!("refusal {number}"), self.refusals[number]));
+        }
+        for status in STATUSES {
+            let number = status as usize;
+            rows.push((format!("fault status {number}"), self.statuses[number]));
+        }
+        rows
+    }
+
+    /// The refusals and statuses that never occurred.
+    pub fn missing(&self) -> Vec<String> {
+        let rows = self.rows().into_iter();
+        rows.filter(|row| row.1 == 0).map(|row| row.0).collect()
+    }
+}
+
+/// What was compared.
+#[derive(Clone, Default)]
+pub struct Tally {
+    pub by_call: Met,
+    pub by_run: Met,
+    /// What the second model did in the calls one by one.
+    pub events: Coverage,
+}
+
+impl Tally {
+    pub fn add(&mut self, other: &Tally) {
+        self.by_call.add(&other.by_call);
+        self.by_run.add(&other.by_run);
+        self.events.add(&other.events);
+    }
+
+    /// Compares a list one by one, in one run, and in runs of `piece` calls. A difference is shrunk,
+    /// printed and panicked with; `name` says where the list comes from. Gives the machine at the end.
+    pub fn compare(
+        &mut self,
+        setting: &Setting,
+        calls: &[Numbers],
+        piece: usize,
+        name: &dyn Fn() -> String,
+    ) -> Machine {
+        let ran = by_call(setting, calls, &mut self.events, &mut self.by_call);
+        let machine = ran.unwrap_or_else(|_| {
+            report(name() + ", by call", setting, calls, &|setting, calls| {
+                by_call(setting, calls, &mut Unwatched, &mut Met::default()).err()
+            })
+        });
+        for piece in [calls.len().max(1), piece] {
+            if by_runs(setting, calls, piece, &mut self.by_run).is_some() {
+                let how = format!(", by runs of {piece} calls");
+                report(name() + &how, setting, calls, &|setting, calls| {
+                    by_runs(setting, calls, piece, &mut Met::default())
+                });
+            }
+        }
+        machine
+    }
+}
+
+impl fmt::Display for Tally {
+    fn fmt(&self, out: &mut fmt::Formatter) -> fmt::Result {
+        writeln!(out, "{:>10}{:>12}", "by call", "by run")?;
+        let rows = self.by_call.rows().into_iter().zip(self.by_run.rows());
+        for ((name, by_call), (_, by_run)) in rows {
+            writeln!(out, "{by_call:>10}{by_run:>12}  {name}")?;
+        }
+        Ok(())
+    }
+}
+
+/// Memory and store are compared after every call and run if memory is at most this long.
+const SMALL: usize = 1024;
+
+/// The calls one by one; gives the model's machine at the end, or what differs first.
+fn by_call<T: Watch>(
+    setting: &Setting,
+    calls: &[Numbers],
+    watch: &mut T,
+    met: &mut Met,
+) -> Result<Machine, String> {
+    let mut sides = Sides::of(setting);
+    let small = setting.memory.len() <= SMALL;
+    for (i, numbers) in calls.iter().enumerate() {
+        let said = |what| format!("call {i:X}: {what}");
+        let code = sides.call(numbers, watch).map_err(said)?;
+        if small {
+            sides.bytes().map_err(said)?;
+        }
+        met.note(code);
+    }
+    sides.bytes()?;
+    Ok(sides.model)
+}
+
+/// What an answer is before a run.
+const UNTOUCHED: u64 = 0x1234_5678_9ABC_DEF0;
+
+/// The calls by runs of at most `piece` calls; a run that stops at numbers that are no call is followed
+/// by one from behind them. Gives what differs first.
+fn by_runs(setting: &Setting, calls: &[Numbers], piece: usize, met: &mut Met) -> Option<String> {
+    let mut sides = Sides::of(setting);
+    let small = setting.memory.len() <= SMALL;
+    let mut rest = calls;
+    while !rest.is_empty() {
+        let at = calls.len() - rest.len();
+        let said = |what| format!("run from call {at:X}: {what}");
+        let part = &rest[..piece.min(rest.len())];
+        let mut answers = vec![UNTOUCHED; part.len()];
+        let made = match sides.run(part.as_flattened(), &mut answers) {
+            Ok(made) => made,
+            Err(what) => return Some(said(what)),
+        };
+        if small {
+            if let Err(what) = sides.bytes() {
+                return Some(said(what));
+            }
+        }
+        answers[..made].iter().for_each(|code| met.note(*code));
+        if made < part.len() {
+            met.note(NO_CALL);
+            rest = &rest[made + 1..];
+        } else {
+            rest = &rest[made..];
+        }
+    }
+    sides.bytes().err()
+}
+
+/// Shrinks a difference, and panics with what is left of it.
+fn report(
+    name: String,
+    setting: &Setting,
+    calls: &[Numbers],
+    differs: &dyn Fn(&Setting, &[Numbers]) -> Option<String>,
+) -> ! {
+    let calls = shrunk(calls, |calls| differs(setting, calls).is_some());
+    let setting = zeroed(setting, |setting| differs(setting, &calls).is_some());
+    let what = differs(&setting, &calls).unwrap_or_default();
+    let mut text = format!("{name}\n{what}\nall numbers hexadecimal; ");
+    list(&mut text, &setting, &calls).expect("text is written");
+    panic!("{text}");
+}
+
+/// Zeroes pieces of memory that the difference does not need, if memory is not too long for that.
+fn zeroed(setting: &Setting, differs: impl Fn(&Setting) -> bool) -> Setting {
+    let mut kept = setting.clone();
+    if kept.memory.len() > 0x40000 {
+        return kept;
+    }
+    for size in [1024, 4] {
+        for at in (0..kept.memory.len()).step_by(size) {
+            let end = (at + size).min(kept.memory.len());
+            let piece = kept.memory[at..end].to_vec();
+            if piece.iter().all(|byte| *byte == 0) {
+                continue;
+            }
+            kept.memory[at..end].fill(0);
+            if !differs(&kept) {
+                kept.memory[at..end].copy_from_slice(&piece);
+            }
+        }
+    }
+    kept
+}
+
+/// Writes memory's length, its words that are not zero unless they are many, and the calls.
+fn list(text: &mut String, setting: &Setting, calls: &[Numbers]) -> fmt::Result {
+    let (length, store) = (setting.memory.len(), setting.store.len());
+    writeln!(text, "memory of {length:X} bytes, store of {store:X}")?;
+    let words = setting.memory.chunks_exact(4).enumerate();
+    let words = words.map(|(i, word)| (4 * i, u32::from_le_bytes(word.try_into().unwrap())));
+    let words: Vec<_> = words.filter(|(_, word)| *word != 0).collect();
+    if words.len() <= 32 {
+        for (at, word) in words {
+            writeln!(text, "       word {word:X} at {at:X}")?;
+        }
+    } else {
+        writeln!(text, "       {:X} words that are not 0", words.len())?;
+    }
+    for (i, numbers) in calls.iter().enumerate() {
+        match Call::from_numbers(numbers) {
+            Some(call) => writeln!(text, "{i:>5X}  {call}   {numbers:X?}")?,
+            None => writeln!(text, "{i:>5X}  no call   {numbers:X?}")?,
+        }
+    }
+    Ok(())
+}
