@@ -16,10 +16,12 @@ use: cargo run --release --offline [-- ROUNDS]
 const WHAT: &str = "\
 library: the proved library, called through its functions for C. model: the second model, in Rust.
 ns a call: processor time of the one thread, least of the rounds (median). ratio: library / model, by the least.
-soundness: the test of refusal 3 on one sound state again and again, 512 valid lines, 32 TLB entries, 8 buffer entries, 64 KB of memory
-  in a row: the lines are 16 KB in a row; no two tags of a set agree in their low six bits, and neither side compares tags
+soundness: the test of refusal 3 on one sound state again and again, 512 lines, 32 TLB entries, 8 buffer entries, 64 KB of memory; the library
+  compares all tags of a set, four at a time, wherever the lines lie, and the model two only if they agree in their low six bits
+  in a row: the lines are 16 KB in a row; no two tags of a set agree in their low six bits
   random: the lines lie anywhere
-  apart: the lines of a set lie a megabyte apart; all its tags agree in their low six bits, and both sides compare every pair";
+  apart: the lines of a set lie a megabyte apart; all its tags agree in their low six bits
+  half empty: as random, every second line empty; the library tests empty lines in a pass of their own";
 
 fn main() {
     let Some(rounds) = rounds(std::env::args().skip(1)) else {

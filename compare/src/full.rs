@@ -4,8 +4,8 @@ use sa110_model::random::Rng;
 use sa110_model::state::{BUFFER_ENTRIES, LINES, SETS, WAYS};
 use sa110_model::{words, Answer, Call, Machine};
 
-/// Where the lines of a full cache lie. Both soundness tests compare two tags of a set only if their
-/// low six bits are equal.
+/// Where the lines of a full cache lie. The model's soundness test compares two tags of a set only if
+/// their low six bits are equal; the library's compares all.
 #[derive(Clone, Copy, Debug, PartialEq, Eq)]
 pub enum Tags {
     /// 16 KB in a row: no two tags of a set agree in their low six bits.

@@ -15,7 +15,7 @@ use Rattle.values.specs.declared.Line.{Line}
 use Rattle.tlb.specs.Tlb.{baseOf}
 use Rattle.tlb.specs.Packing.{entryOf}
 use Rattle.cache.specs.Dcache.{dirtyHalves}
-use Rattle.sound.specs.Soundness.{pointerSound, lineSound, entryInRange, entrySound, countsSound}
+use Rattle.sound.specs.Soundness.{pointerSound, lineEmpty, lineSound, entryInRange, entrySound, countsSound}
 
 -- "a pointer above 31"
 pub high : (p : ℕ) → 31 < p → pointerSound p ≡ false
@@ -46,7 +46,7 @@ eighth x h k = let m : x / 8 < 32 = omega arith in rest (x / 8) m k
 below-eight : (x : ℕ) → x / 8 ≡ 0 → x < 8
 below-eight x h = omega arith
 
-even : (x : ℕ) → (x % 2 ≡ 1 → ⊥) → x % 2 ≡ 0
+pub even : (x : ℕ) → (x % 2 ≡ 1 → ⊥) → x % 2 ≡ 0
 even x h = omega arith
 
 -- three bits of zero
@@ -62,16 +62,21 @@ small x h a b c = none x (one x (two x h c) b) a
     one : (y : ℕ) → y < 4 → y / 2 % 2 ≡ 0 → y < 2
     one y h c = let m : y / 2 < 2 = omega arith in let k : y / 2 ≡ 0 = none (y / 2) m c in omega arith
 
-module _ (w n : ℕ) where
-  pub line-even : w < 18446744073709551616 → w % 2 ≡ 0 → lineSound n (lineOf w) ≡ eqb w 0
-  unfolding lineSound lineOf
-  line-even h e =
-      let q : (w / 1 % 2 ≡ 1 → ⊥) = λ k. two e k in
-      rw (ne-eqb (w / 1 % 2) 1 q) (empty (eqb w 0) refl)
-    where
-      two : w % 2 ≡ 0 → w / 1 % 2 ≡ 1 → ⊥
-      two e k = omega arith
+module _ (w : ℕ) where
+  pub line-invalid : w % 2 ≡ 0 → lineOf w .valid ≡ false
+  unfolding lineOf
+  line-invalid e = let k : w / 1 % 2 ≡ 0 = omega arith in rw k
 
+  pub line-valid : w % 2 ≡ 1 → lineOf w .valid ≡ true
+  unfolding lineOf
+  line-valid e = let k : w / 1 % 2 ≡ 1 = omega arith in rw k
+
+  pub empty-even : w % 2 ≡ 0 → lineEmpty (lineOf w) ≡ eqb w 0
+  unfolding lineOf
+  empty-even e =
+      let k : w / 1 % 2 ≡ 0 = omega arith in
+      rw k (empty (eqb w 0) refl)
+    where
       all-zero : w / 4294967296 ≡ 0 → w / 8 % 536870912 ≡ 0 → (w / 2 % 2 ≡ 1 → ⊥) → (w / 4 % 2 ≡ 1 → ⊥) → w ≡ 0
       all-zero a b c d =
           let c′ : w / 2 % 2 ≡ 0 = omega arith in
@@ -100,19 +105,17 @@ module _ (w n : ℕ) where
           (λ b. rw (a, b)))
           (λ a. rw a)
 
-  pub line-inside : (w % 2 ≡ 0 → ⊥) → w / 8 % 536870912 * 32 + 32 ≤ n → lineSound n (lineOf w) ≡ ltb (w / 4294967296) 8388608
-  unfolding lineSound lineOf
-  line-inside e h = let k : w / 1 % 2 ≡ 1 = odd e in rw (eq-eqb (w / 1 % 2) 1 k, le-leb (w / 8 % 536870912 * 32 + 32) n h)
-    where
-      odd : (w % 2 ≡ 0 → ⊥) → w / 1 % 2 ≡ 1
-      odd e = omega arith
+  module _ (n : ℕ) where
+    abbrev sound-as : Bool → Bool
+    sound-as v = cond v (leb (lineOf w .frame * 32 + 32) n && ltb (lineOf w .tag) 8388608) (lineEmpty (lineOf w))
 
-  pub line-outside : (w % 2 ≡ 0 → ⊥) → n < w / 8 % 536870912 * 32 + 32 → lineSound n (lineOf w) ≡ false
-  unfolding lineSound lineOf
-  line-outside e h = let k : w / 1 % 2 ≡ 1 = odd e in rw (eq-eqb (w / 1 % 2) 1 k, lt-leb (w / 8 % 536870912 * 32 + 32) n h)
-    where
-      odd : (w % 2 ≡ 0 → ⊥) → w / 1 % 2 ≡ 1
-      odd e = omega arith
+    pub line-even : w % 2 ≡ 0 → lineSound n (lineOf w) ≡ eqb w 0
+    unfolding lineSound
+    line-even e = ap sound-as (line-invalid e) ∙ empty-even e
+
+    pub line-odd : w % 2 ≡ 1 → lineSound n (lineOf w) ≡ (leb (w / 8 % 536870912 * 32 + 32) n && ltb (w / 4294967296) 8388608)
+    unfolding lineSound lineOf
+    line-odd e = ap sound-as (line-valid e)
 
 -- two tests that hold together
 same-test : (a b x y : ℕ) → (a ≡ b → x ≡ y) → (x ≡ y → a ≡ b) → eqb a b ≡ eqb x y

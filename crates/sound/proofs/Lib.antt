@@ -1,4 +1,5 @@
 pub mod Clauses
+pub mod Lines
 pub mod Twice
 pub mod Tags
 pub mod Slots

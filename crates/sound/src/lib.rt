@@ -31,53 +31,82 @@ pub fn pointers_sound(pointers: &[u32]) -> bool
     true
 }
 
-// Whether a word stands for an empty line, or for a valid one inside a memory of n bytes with a tag in range.
-fn line_sound(w: u64, n: usize) -> bool
-    ensures { λ r. ⌜ r ≡ spec.lineSound n (lineOf w) ⌝ }
+// With this number added, the low 32 bits of a valid line's word stay below 2^32 just where the line is inside a memory of n bytes.
+fn spare_of(n: usize) -> u64
+    ensures { λ r. ⌜ (n / 32 < 536870912 → r + n / 32 * 8 ≡ 4294967295) × (536870912 ≤ n / 32 → r ≡ 0) ⌝ }
 {
-    if w % 2 == 0 {
-        return w == 0;
+    if n / 32 < 536870912 {
+        return 4294967295 - n as u64 / 32 * 8;
     }
-    if w / 8 % 536870912 * 32 + 32 <= n as u64 {
-        return w / 4294967296 < 8388608;
-    }
-    false
+    0
 }
 
-// Whether every line is sound.
+// The word of an invalid line; 0 for a valid one.
+fn even_part(w: u64) -> u64
+    ensures { λ r. ⌜ (w % 2 ≡ 0 → r ≡ w) × (w % 2 ≡ 1 → r ≡ 0) ⌝ }
+{
+    if w % 2 == 0 {
+        return w;
+    }
+    0
+}
+
+// Whether every line is valid or empty.
+fn empties_sound(lines: &[u64]) -> bool
+    ensures { λ r. ⌜ r ≡ all (λ (w : ℕ). lineOf w .valid || spec.lineEmpty (lineOf w)) (now (lines .entry)) ⌝ }
+{
+    let mut i: usize = 0;
+    let mut stray: u64 = 0;
+    while i < lines.len() {
+        stray = stray | even_part(lines[i]);
+        i += 1;
+    }
+    stray == 0
+}
+
+// Whether every line is sound. The words are joined bit by bit, and each test is made once, on what they make together.
 pub fn lines_sound(lines: &[u64], n: usize) -> bool
     ensures { λ r. ⌜ r ≡ all (spec.lineSound n) (linesOf (now (lines .entry))) ⌝ }
 {
+    let spare = spare_of(n);
     let mut i: usize = 0;
+    let mut tags: u64 = 0;
+    let mut ends: u64 = 0;
+    let mut valid: u64 = 1;
     while i < lines.len() {
-        if line_sound(lines[i], n) {
-            i += 1;
-        } else {
-            return false;
-        }
+        let w = lines[i];
+        tags = tags | w;
+        ends = ends | (w % 4294967296 + spare);
+        valid = valid & w;
+        i += 1;
     }
-    true
+    if tags >= 36028797018963968 {
+        return false;
+    }
+    if ends >= 4294967296 {
+        return false;
+    }
+    if valid == 1 {
+        return true;
+    }
+    empties_sound(lines)
 }
 
-// How many halves of a line are dirty.
-fn halves_of(w: u64) -> u32
-    ensures { λ r. ⌜ (r ≡ dcache.dirtyHalves (lineOf w)) × (r ≤ 2) ⌝ }
-{
-    (w / 2 % 2 + w / 4 % 2) as u32
-}
-
-// How many halves of all lines are dirty.
+// How many halves of all lines are dirty. The dirty bits are added where they lie in a word, and the sums brought down at the end.
 pub fn dirty_halves(lines: &[u64]) -> u32
     requires { ⌜ length (now lines) ≡ 512 ⌝ }
     ensures { λ r. ⌜ (r ≡ sum dcache.dirtyHalves (linesOf (now (lines .entry)))) × (r ≤ 1024) ⌝ }
 {
     let mut i: usize = 0;
-    let mut n: u32 = 0;
+    let mut low: u64 = 0;
+    let mut high: u64 = 0;
     while i < 512 {
-        n += halves_of(lines[i]);
+        let line = lines[i];
+        low += line / 2 % 2 * 2;
+        high += line / 4 % 2 * 4;
         i += 1;
     }
-    n
+    (low / 2 + high / 4) as u32
 }
 
 // Whether a base of 4 KB pages is a multiple of a TLB size.
@@ -151,26 +180,39 @@ pub fn counts_sound(c: Counts, dirty: u32) -> bool
     c.halves as u64 + dirty as u64 <= c.calls as u64
 }
 
-// The bit of a valid line's tag in a word of the tags seen.
-fn mark_of(w: u64) -> u64
-    ensures { λ r. ⌜ (w % 2 ≡ 1 → bit r (w / 4294967296 % 64) ≡ true) ⌝ }
+// The key of line p of a set: a valid line's is its tag, an empty line's a number that no tag in range and no other empty line has.
+fn key_of(w: u64, p: usize) -> u32
+    requires { ⌜ p < 32 ⌝ }
+    ensures { λ r. ⌜ (w % 2 ≡ 1 → r ≡ w / 4294967296) ⌝ }
 {
-    if w % 2 == 1 {
-        return 1u64 << (w / 4294967296 % 64);
-    }
-    0
+    (w / 4294967296) as u32 | std::num::wrapping_sub_u32((w % 2) as u32, 1) & (8388608 + p as u32)
 }
 
-// The first of p lines to compare a line with: none of them where the bit of its tag is not among the tags seen.
-fn first_to_compare(seen: u64, w: u64, p: usize) -> usize
-    ensures { λ r. ⌜ (r ≤ p) × ((r ≡ 0 → ⊥) → w % 2 ≡ 1 → bit seen (w / 4294967296 % 64) ≡ false) ⌝ }
+// Whether no two keys of the set whose lines begin at base are equal. The keys stand twice in a row, and each is compared with the 16 behind it:
+// 512 comparisons without a branch, which the compiler makes four at a time.
+fn keys_differ(lines: &[u64], base: usize) -> bool
+    requires { ⌜ (length (now lines) ≡ 512) × (base ≤ 480) ⌝ }
+    ensures { λ r. ⌜ (r ≡ true → spec.tagTwice (take 32 (drop base (linesOf (now (lines .entry))))) ≡ false) ⌝ }
 {
-    if w % 2 == 1 {
-        if (seen >> (w / 4294967296 % 64)) % 2 == 1 {
-            return 0;
-        }
+    let mut keys = [0u32; 64];
+    let mut p: usize = 0;
+    while p < 32 {
+        let k = key_of(lines[base + p], p);
+        keys[p] = k;
+        keys[p + 32] = k;
+        p += 1;
     }
-    p
+    let mut differ = true;
+    let mut i: usize = 0;
+    while i < 32 {
+        let mut d: usize = 1;
+        while d < 17 {
+            differ = differ & (keys[i] != keys[i + d]);
+            d += 1;
+        }
+        i += 1;
+    }
+    differ
 }
 
 // Whether two words stand for valid lines with equal tags.
@@ -185,17 +227,19 @@ fn same_tag(v: u64, w: u64) -> bool
     false
 }
 
-// Whether two valid lines of the set whose lines begin at base have equal tags.
+// Whether two valid lines of the set whose lines begin at base have equal tags. Only a set with two equal keys is searched.
 fn tag_twice(lines: &[u64], base: usize) -> bool
     requires { ⌜ (length (now lines) ≡ 512) × (base ≤ 480) ⌝ }
     ensures { λ r. ⌜ r ≡ spec.tagTwice (take 32 (drop base (linesOf (now (lines .entry))))) ⌝ }
 {
-    let mut seen: u64 = 0;
+    if keys_differ(lines, base) {
+        return false;
+    }
     let mut found = false;
     let mut p: usize = 0;
     'set: while p < 32 {
         let w = lines[base + p];
-        let mut q = first_to_compare(seen, w, p);
+        let mut q: usize = 0;
         while q < p {
             if same_tag(lines[base + q], w) {
                 found = true;
@@ -203,7 +247,6 @@ fn tag_twice(lines: &[u64], base: usize) -> bool
             }
             q += 1;
         }
-        seen = seen | mark_of(w);
         p += 1;
     }
     found

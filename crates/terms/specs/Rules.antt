@@ -64,7 +64,7 @@ R2 h va (Passed l) =
 -- ---- R3
 
 -- "before a Dcache flush each line it covers that was stored to since the last flush covering it has been cleaned after its last store"; a
--- line flush covers the lines stored to through its virtual line
+-- line flush covers the lines whose last store went through its virtual line
 abbrev pub R3 : History → Transfer → ℕ → Type 0
 R3 h t v =
     (l : ℕ) → (flushesDcache t ≡ true → isStored (h .lineStage l) ≡ false)

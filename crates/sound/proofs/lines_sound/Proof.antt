@@ -1,68 +1,105 @@
 use native.Mathlib.Omega.{arith}
-use Prim.Native.Nat.{ℕ, _+_, _-_, _≤_}
-use mathlib.Core.Path.{_≡_, refl, sym, _∙_}
+use Prim.Native.Nat.{_+_, _-_, _%_, _≤_}
+use mathlib.Core.Path.{sym, _∙_}
+use lib.Bits.{bitOr, bitAnd, and-le-l}
+use lib.Dec.{eqb, ltb}
+use lib.ListN.{length, getD}
 use denote.Ref.{now}
-use lib.ListN.{length, drop}
 use borrow.Author.Needs.{needs}
-use Rattle.values.specs.Tests.{all}
-use Rattle.values.specs.Empty.{emptyLine}
-use Rattle.cache.specs.Packing.{lineOf, linesOf}
-use Rattle.cache.proofs.Lines.{line-zero}
-use Rattle.sound.specs.Soundness.{lineSound}
-use Rattle.values.proofs.Alls.{words-no, words-on, words-end}
+use borrow.Author.Tests.{lt-ltb, le-ltb, eq-eqb}
+use Rattle.sound.proofs.Lines.{fits, inside, odd, spared-low, tag-out, end-out, all-in, odds-whole, Joined, joined-start, joined-on, joined-end, or-below, and-odd}
 use Rattle.sound.proofs.lines_sound.Statement.{statement}
 use Rattle.sound.proofs.lines_sound.Tie as tie
 use Rattle.sound.proofs.lines_sound.Reads as reads
 use Rattle.sound.proofs.lines_sound.Lts as lts
-use Rattle.sound.proofs.line_sound.Reads as line-sound-reads
+use Rattle.sound.proofs.empties_sound.Reads as empties-sound-reads
+use Rattle.sound.proofs.spare_of.Reads as spare-of-reads
 
 abbrev Inv-loop : tie.InvT-loop
-Inv-loop lines n i₀ i = (i ≤ length lines) × (all (lineSound n) (drop i (linesOf lines)) ≡ all (lineSound n) (linesOf lines))
+Inv-loop lines n spare i₀ tags₀ ends₀ valid₀ i tags ends valid = (i ≤ length lines) × (valid ≤ 1) × Joined fits lines i (ltb tags 36028797018963968) × Joined (inside spare) lines i (ltb ends 4294967296) × Joined odd lines i (eqb valid 1)
 
 abbrev μ-loop : tie.MeasureT-loop
-μ-loop lines n i₀ i = length lines - i
+μ-loop lines n spare i₀ tags₀ ends₀ valid₀ i tags ends valid = length lines - i
 
--- src/lib.rt:46:5
+-- src/lib.rt:71:9
+spare-of-requires : tie.Need-spare-of-requires Inv-loop μ-loop
+spare-of-requires c κs = search needs
+
+-- src/lib.rt:76:5
 loop-holds : tie.Need-loop-holds Inv-loop μ-loop
-loop-holds c = (omega arith, refl)
+loop-holds c = let a = c .before .before .args in
+    (omega arith, search needs, joined-start fits (now (a .lines)), joined-start (inside (c .spare-of .result)) (now (a .lines)), joined-start odd (now (a .lines)))
 
--- src/lib.rt:47:23
-mul-line-sound : tie.Need-mul-line-sound Inv-loop μ-loop
-mul-line-sound c = search needs
+-- src/lib.rt:77:17
+mul-w : tie.Need-mul-w Inv-loop μ-loop
+mul-w c = search needs
 
--- src/lib.rt:47:23
-shared-slice-read-line-sound : tie.Need-shared-slice-read-line-sound Inv-loop μ-loop
-shared-slice-read-line-sound c = search needs
+-- src/lib.rt:77:17
+shared-slice-read-w : tie.Need-shared-slice-read-w Inv-loop μ-loop
+shared-slice-read-w c = search needs
 
--- src/lib.rt:47:12
-line-sound-requires : tie.Need-line-sound-requires Inv-loop μ-loop
-line-sound-requires c κs = search needs
+-- src/lib.rt:79:24
+add-ends : tie.Need-add-ends Inv-loop μ-loop
+add-ends c = let s = spared-low (c .before .before .before .before .before .args .n) (c .before .before .before .spare-of .result) (c .before .before .before .spare-of .ensures) in omega arith
 
--- src/lib.rt:48:13
+-- src/lib.rt:81:9
 add-i : tie.Need-add-i Inv-loop μ-loop
 add-i c = search needs
 
--- src/lib.rt:46:5
+-- src/lib.rt:76:5
 loop-less : tie.Need-loop-less Inv-loop μ-loop
 loop-less c = search needs
 
--- src/lib.rt:46:5
+-- src/lib.rt:76:5
 loop-again : tie.Need-loop-again Inv-loop μ-loop
-loop-again c = let a = c .before .before .before .before .before .before .args in
-    let l = c .before .before .before .before .loop in
-    (omega arith, sym (words-on (lineSound (a .n)) lineOf emptyLine line-zero (now (a .lines)) (l .i) (omega arith) (sym (c .before .line-sound .ensures) ∙ c .if1 .taken)) ∙ l .inv .1)
+loop-again c = let a = c .before .before .before .before .before .args in
+    let l = c .before .before .loop in
+    let s = c .before .before .before .spare-of .result in
+    let w = getD (now (a .lines)) (l .i) 0 in
+    let v = and-le-l (l .valid) w in (
+      omega arith,
+      omega arith,
+      joined-on fits (now (a .lines)) (l .i) (ltb (l .tags) 36028797018963968) (ltb (bitOr (l .tags) w) 36028797018963968) (omega arith) (l .inv .2) (or-below 55 (l .tags) w),
+      joined-on (inside s) (now (a .lines)) (l .i) (ltb (l .ends) 4294967296) (ltb (bitOr (l .ends) (w % 4294967296 + s)) 4294967296) (omega arith) (l .inv .3) (or-below 32 (l .ends) (w % 4294967296 + s)),
+      joined-on odd (now (a .lines)) (l .i) (eqb (l .valid) 1) (eqb (bitAnd (l .valid) w) 1) (omega arith) (l .inv .4) (and-odd (l .valid) w (l .inv .1)),
+    )
 
--- src/lib.rt:50:13
+-- src/lib.rt:84:9
 returns : tie.Need-returns Inv-loop μ-loop
-returns c = let a = c .before .before .before .before .before .before .args in
-    let l = c .before .before .before .before .loop in
-    sym (words-no (lineSound (a .n)) lineOf emptyLine line-zero (now (a .lines)) (l .i) (omega arith) (sym (c .before .line-sound .ensures) ∙ c .if1 .left)) ∙ l .inv .1
+returns c = let a = c .before .before .before .before .before .args in
+    let l = c .before .before .loop in
+    let s = c .before .before .before .spare-of .result in
+    let g = c .before .before .before .spare-of .ensures in
+    sym (tag-out (a .n) s g (now (a .lines)) (joined-end fits (now (a .lines)) (l .i) (ltb (l .tags) 36028797018963968) (omega arith) (l .inv .2) ∙ le-ltb (l .tags) 36028797018963968 (c .if1 .taken)))
 
--- src/lib.rt:42:1
+-- src/lib.rt:87:9
 returns-2 : tie.Need-returns-2 Inv-loop μ-loop
-returns-2 c = let a = c .before .before .before .args in
-    let l = c .before .loop in
-    sym (words-end (lineSound (a .n)) lineOf emptyLine line-zero (now (a .lines)) (l .i) (omega arith)) ∙ l .inv .1
+returns-2 c = let a = c .before .before .before .before .before .before .args in
+    let l = c .before .before .before .loop in
+    let s = c .before .before .before .before .spare-of .result in
+    let g = c .before .before .before .before .spare-of .ensures in
+    sym (end-out (a .n) s g (now (a .lines)) (joined-end (inside s) (now (a .lines)) (l .i) (ltb (l .ends) 4294967296) (omega arith) (l .inv .3) ∙ le-ltb (l .ends) 4294967296 (c .if2 .taken)))
+
+-- src/lib.rt:90:9
+returns-3 : tie.Need-returns-3 Inv-loop μ-loop
+returns-3 c = let a = c .before .before .before .before .before .before .before .args in
+    let l = c .before .before .before .before .loop in
+    let s = c .before .before .before .before .before .spare-of .result in
+    let g = c .before .before .before .before .before .spare-of .ensures in
+    let o = joined-end odd (now (a .lines)) (l .i) (eqb (l .valid) 1) (omega arith) (l .inv .4) ∙ eq-eqb (l .valid) 1 (c .if3 .taken) in
+    sym (all-in (a .n) s g (now (a .lines)) (joined-end fits (now (a .lines)) (l .i) (ltb (l .tags) 36028797018963968) (omega arith) (l .inv .2) ∙ lt-ltb (l .tags) 36028797018963968 (c .before .before .if1 .left)) (joined-end (inside s) (now (a .lines)) (l .i) (ltb (l .ends) 4294967296) (omega arith) (l .inv .3) ∙ lt-ltb (l .ends) 4294967296 (c .before .if2 .left)) ∙ odds-whole (now (a .lines)) o)
+
+-- src/lib.rt:92:5
+empties-sound-requires : tie.Need-empties-sound-requires Inv-loop μ-loop
+empties-sound-requires c κs = search needs
+
+-- src/lib.rt:68:1
+returns-4 : tie.Need-returns-4 Inv-loop μ-loop
+returns-4 c = let a = c .before .before .before .before .before .before .before .before .args in
+    let l = c .before .before .before .before .before .loop in
+    let s = c .before .before .before .before .before .before .spare-of .result in
+    let g = c .before .before .before .before .before .before .spare-of .ensures in
+    c .empties-sound .ensures ∙ sym (all-in (a .n) s g (now (a .lines)) (joined-end fits (now (a .lines)) (l .i) (ltb (l .tags) 36028797018963968) (omega arith) (l .inv .2) ∙ lt-ltb (l .tags) 36028797018963968 (c .before .before .before .if1 .left)) (joined-end (inside s) (now (a .lines)) (l .i) (ltb (l .ends) 4294967296) (omega arith) (l .inv .3) ∙ lt-ltb (l .ends) 4294967296 (c .before .before .if2 .left)))
 
 pub lines-sound-spec : {M : Type 1} → statement M
 lines-sound-spec =
@@ -70,12 +107,16 @@ lines-sound-spec =
     (tie.spec
     Inv-loop
     μ-loop
+    spare-of-requires
     loop-holds
-    mul-line-sound
-    shared-slice-read-line-sound
-    line-sound-requires
+    mul-w
+    shared-slice-read-w
+    add-ends
     add-i
     loop-less
     loop-again
     returns
-    returns-2)
+    returns-2
+    returns-3
+    empties-sound-requires
+    returns-4)

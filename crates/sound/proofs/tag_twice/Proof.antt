@@ -1,126 +1,119 @@
 use native.Mathlib.Omega.{arith}
-use Prim.Native.Nat.{ℕ, _+_, _-_, _*_, _/_, _%_, _≤_}
+use Prim.Native.Nat.{ℕ, _-_, _≤_}
 use mathlib.Core.Path.{_≡_, refl, sym, _∙_, subst}
-use mathlib.Core.Bool.{true, false}
-use lib.ListN.{getD, drop}
+use mathlib.Core.Bool.{false}
 use denote.Ref.{now}
 use borrow.Author.Needs.{needs}
-use Rattle.sound.proofs.Tags.{Seen, Apart, Clear, none-seen, none-apart, seen-on, apart-on, clear-on, clear-first, set-apart, set-twice}
+use Rattle.sound.proofs.Tags.{Apart, Clear, none-apart, none-clear, apart-on, clear-on, set-apart, set-twice}
 use Rattle.sound.proofs.tag_twice.Statement.{statement}
 use Rattle.sound.proofs.tag_twice.Tie as tie
 use Rattle.sound.proofs.tag_twice.Reads as reads
 use Rattle.sound.proofs.tag_twice.Lts as lts
-use Rattle.sound.proofs.first_to_compare.Reads as first-to-compare-reads
-use Rattle.sound.proofs.mark_of.Reads as mark-of-reads
+use Rattle.sound.proofs.keys_differ.Reads as keys-differ-reads
 use Rattle.sound.proofs.same_tag.Reads as same-tag-reads
 
 abbrev Inv-loop : tie.InvT-loop
-Inv-loop lines base seen found₀ p w q₀ found q = (found ≡ false) × (q ≤ p) × Clear lines base p q
+Inv-loop lines base found₀ p w q₀ found q = (found ≡ false) × (q ≤ p) × Clear lines base p q
 
 abbrev μ-loop : tie.MeasureT-loop
-μ-loop lines base seen found₀ p w q₀ found q = p - q
+μ-loop lines base found₀ p w q₀ found q = p - q
 
 abbrev Inv-set : tie.InvT-set
-Inv-set lines base seen₀ found₀ p₀ seen found p = (found ≡ false) × (p ≤ 32) × Seen lines base p seen × Apart lines base p
+Inv-set lines base found₀ p₀ found p = (found ≡ false) × (p ≤ 32) × Apart lines base p
 
 abbrev μ-set : tie.MeasureT-set
-μ-set lines base seen₀ found₀ p₀ seen found p = 32 - p
+μ-set lines base found₀ p₀ found p = 32 - p
 
--- src/lib.rt:193:5
+-- src/lib.rt:235:8
+keys-differ-requires : tie.Need-keys-differ-requires Inv-loop μ-loop Inv-set μ-set
+keys-differ-requires c κs = search needs
+
+-- src/lib.rt:236:9
+returns : tie.Need-returns Inv-loop μ-loop Inv-set μ-set
+returns c = sym (c .before .keys-differ .ensures (c .if1 .taken))
+
+-- src/lib.rt:240:5
 set-holds : tie.Need-set-holds Inv-loop μ-loop Inv-set μ-set
-set-holds c = let a = c .before .args in (refl, search needs, none-seen (now (a .lines)) (a .base), none-apart (now (a .lines)) (a .base))
+set-holds c = let a = c .before .before .before .args in (refl, search needs, none-apart (now (a .lines)) (a .base))
 
--- src/lib.rt:194:23
+-- src/lib.rt:241:23
 add-w : tie.Need-add-w Inv-loop μ-loop Inv-set μ-set
 add-w c = search needs
 
--- src/lib.rt:194:17
+-- src/lib.rt:241:17
 mul-w : tie.Need-mul-w Inv-loop μ-loop Inv-set μ-set
 mul-w c = search needs
 
--- src/lib.rt:194:17
+-- src/lib.rt:241:17
 shared-slice-read-w : tie.Need-shared-slice-read-w Inv-loop μ-loop Inv-set μ-set
 shared-slice-read-w c = search needs
 
--- src/lib.rt:195:13
-first-to-compare-requires : tie.Need-first-to-compare-requires Inv-loop μ-loop Inv-set μ-set
-first-to-compare-requires c κs = search needs
-
--- src/lib.rt:196:9
+-- src/lib.rt:243:9
 loop-holds : tie.Need-loop-holds Inv-loop μ-loop Inv-set μ-set
-loop-holds c = let a = c .before .before .before .before .before .args in
-    let s = c .before .before .before .set in
-    let f = c .first-to-compare in
-    (s .inv .0, f .ensures .0, clear-first (now (a .lines)) (a .base) (s .p) (f .result) (s .seen) (s .inv .2) (f .ensures .0) (f .ensures .1))
+loop-holds c = let a = c .before .before .before .before .before .before .args in
+    let s = c .before .before .set in
+    (s .inv .0, search needs, none-clear (now (a .lines)) (a .base) (s .p))
 
--- src/lib.rt:197:31
+-- src/lib.rt:244:31
 add-same-tag : tie.Need-add-same-tag Inv-loop μ-loop Inv-set μ-set
 add-same-tag c = search needs
 
--- src/lib.rt:197:25
+-- src/lib.rt:244:25
 mul-same-tag : tie.Need-mul-same-tag Inv-loop μ-loop Inv-set μ-set
 mul-same-tag c = search needs
 
--- src/lib.rt:197:25
+-- src/lib.rt:244:25
 shared-slice-read-same-tag : tie.Need-shared-slice-read-same-tag Inv-loop μ-loop Inv-set μ-set
 shared-slice-read-same-tag c = search needs
 
--- src/lib.rt:197:16
+-- src/lib.rt:244:16
 same-tag-requires : tie.Need-same-tag-requires Inv-loop μ-loop Inv-set μ-set
 same-tag-requires c κs = search needs
 
--- src/lib.rt:201:13
+-- src/lib.rt:248:13
 add-q : tie.Need-add-q Inv-loop μ-loop Inv-set μ-set
 add-q c = search needs
 
--- src/lib.rt:196:9
+-- src/lib.rt:243:9
 loop-less : tie.Need-loop-less Inv-loop μ-loop Inv-set μ-set
 loop-less c = search needs
 
--- src/lib.rt:196:9
+-- src/lib.rt:243:9
 loop-again : tie.Need-loop-again Inv-loop μ-loop Inv-set μ-set
-loop-again c = let a = c .before .before .before .before .before .before .before .before .before .before .args in
-    let s = c .before .before .before .before .before .before .before .before .set in
+loop-again c = let a = c .before .before .before .before .before .before .before .before .before .before .before .args in
+    let s = c .before .before .before .before .before .before .before .set in
     let l = c .before .before .before .before .loop in
-    (l .inv .0, omega arith, clear-on (now (a .lines)) (a .base) (s .p) (l .q) (l .inv .2) (sym (c .before .same-tag .ensures) ∙ c .if1 .left))
+    (l .inv .0, omega arith, clear-on (now (a .lines)) (a .base) (s .p) (l .q) (l .inv .2) (sym (c .before .same-tag .ensures) ∙ c .if2 .left))
 
--- src/lib.rt:203:23
-mark-of-requires : tie.Need-mark-of-requires Inv-loop μ-loop Inv-set μ-set
-mark-of-requires c κs = search needs
-
--- src/lib.rt:204:9
+-- src/lib.rt:250:9
 add-p : tie.Need-add-p Inv-loop μ-loop Inv-set μ-set
 add-p c = search needs
 
--- src/lib.rt:193:5
+-- src/lib.rt:240:5
 set-less : tie.Need-set-less Inv-loop μ-loop Inv-set μ-set
 set-less c = search needs
 
--- src/lib.rt:193:5
+-- src/lib.rt:240:5
 set-again : tie.Need-set-again Inv-loop μ-loop Inv-set μ-set
 set-again c = let a = c .before .before .before .before .before .before .before .before .args in
-    let s = c .before .before .before .before .before .before .set in
-    let l = c .before .before .loop in
-    let e : l .q ≡ s .p = omega arith in (
-      l .inv .0,
-      omega arith,
-      seen-on (now (a .lines)) (a .base) (s .p) (s .seen) (c .mark-of .result) (s .inv .2) (c .mark-of .ensures),
-      apart-on (now (a .lines)) (a .base) (s .p) (s .inv .3) (subst (λ (k : ℕ). Clear (now (a .lines)) (a .base) (s .p) k) e (l .inv .2)),
-    )
+    let s = c .before .before .before .before .set in
+    let l = c .before .loop in
+    let e : l .q ≡ s .p = omega arith in
+    (l .inv .0, omega arith, apart-on (now (a .lines)) (a .base) (s .p) (s .inv .2) (subst (λ (k : ℕ). Clear (now (a .lines)) (a .base) (s .p) k) e (l .inv .2)))
 
--- src/lib.rt:186:1
-returns : tie.Need-returns Inv-loop μ-loop Inv-set μ-set
-returns c = let a = c .before .before .before .args in
+-- src/lib.rt:231:1
+returns-2 : tie.Need-returns-2 Inv-loop μ-loop Inv-set μ-set
+returns-2 c = let a = c .before .before .before .before .before .args in
     let s = c .before .set in
     let e : s .p ≡ 32 = omega arith in
-    s .inv .0 ∙ sym (set-apart (now (a .lines)) (a .base) (c .before .before .before .pre .0) (c .before .before .before .pre .1) (subst (λ (k : ℕ). Apart (now (a .lines)) (a .base) k) e (s .inv .3)))
+    s .inv .0 ∙ sym (set-apart (now (a .lines)) (a .base) (c .before .before .before .before .before .pre .0) (c .before .before .before .before .before .pre .1) (subst (λ (k : ℕ). Apart (now (a .lines)) (a .base) k) e (s .inv .2)))
 
--- src/lib.rt:186:1
-returns-2 : tie.Need-returns-2 Inv-loop μ-loop Inv-set μ-set
-returns-2 c = let a = c .before .before .before .before .before .before .before .before .before .before .args in
-    let s = c .before .before .before .before .before .before .before .before .set in
+-- src/lib.rt:231:1
+returns-3 : tie.Need-returns-3 Inv-loop μ-loop Inv-set μ-set
+returns-3 c = let a = c .before .before .before .before .before .before .before .before .before .before .before .args in
+    let s = c .before .before .before .before .before .before .before .set in
     let l = c .before .before .before .before .loop in
-    sym (set-twice (now (a .lines)) (a .base) (c .before .before .before .before .before .before .before .before .before .before .pre .0) (c .before .before .before .before .before .before .before .before .before .before .pre .1) (l .q) (s .p) (omega arith) (omega arith) (sym (c .before .same-tag .ensures) ∙ c .if1 .taken))
+    sym (set-twice (now (a .lines)) (a .base) (c .before .before .before .before .before .before .before .before .before .before .before .pre .0) (c .before .before .before .before .before .before .before .before .before .before .before .pre .1) (l .q) (s .p) (omega arith) (omega arith) (sym (c .before .same-tag .ensures) ∙ c .if2 .taken))
 
 pub tag-twice-spec : {M : Type 1} → statement M
 tag-twice-spec =
@@ -130,11 +123,12 @@ tag-twice-spec =
     μ-loop
     Inv-set
     μ-set
+    keys-differ-requires
+    returns
     set-holds
     add-w
     mul-w
     shared-slice-read-w
-    first-to-compare-requires
     loop-holds
     add-same-tag
     mul-same-tag
@@ -143,9 +137,8 @@ tag-twice-spec =
     add-q
     loop-less
     loop-again
-    mark-of-requires
     add-p
     set-less
     set-again
-    returns
-    returns-2)
+    returns-2
+    returns-3)
