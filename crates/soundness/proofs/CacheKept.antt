@@ -165,7 +165,7 @@ hit-kept n c va i w v k e =
 dirty-inside : (n : ℕ) (l : Line) → LineIs n l → (b : Bool) → b ≡ true → (l ≡ emptyLine → b ≡ false) → l .frame * 32 + 32 ≤ n
 dirty-inside n l k b t f = case (l .valid) (λ v. k .inside v) (λ v. clash t (f (k .empty v)))
 
-half-sent-kept : (n : ℕ) (dirty : Bool) (b : Backing) (block : ℕ) (store : List ℕ) (a : ℕ) → (dirty ≡ true → block * 16 + 16 ≤ n) → Bytes store
+pub half-sent-kept : (n : ℕ) (dirty : Bool) (b : Backing) (block : ℕ) (store : List ℕ) (a : ℕ) → (dirty ≡ true → block * 16 + 16 ≤ n) → Bytes store
     → a + 16 ≤ length store → BackingIs n b → BackingIs n (halfSent dirty b block store a)
 half-sent-kept n true b block store a h f g k =
     half-kept n b block (take 16 (drop a store)) k (h refl) (length-take-le 16 (drop a store) (rw (length-drop a store) (omega arith)))

@@ -12,23 +12,24 @@ use Rattle.values.specs.Addresses.{blockOf}
 use Rattle.values.specs.declared.PhysicalAddress.{PhysicalAddress}
 use Rattle.values.specs.declared.Line.{Line}
 use Rattle.values.proofs.Cases.{case, clash}
-use Rattle.words.specs.Words.{stored}
+use Rattle.words.specs.Words.{stored, Bytes}
 use Rattle.buffer.specs.Buffer.{Backing, drained, holds, ready, buffered}
 use Rattle.buffer.proofs.Below.{below}
 use Rattle.buffer.proofs.Lengths.{memory-drained}
 use Rattle.buffer.proofs.StoredBelow.{as-stored}
 use Rattle.cache.specs.Dcache.{halfSent, halvesSent}
 use Rattle.soundness.proofs.BackingKept.{BackingIs}
+use Rattle.soundness.proofs.CacheKept.{half-sent-kept}
 use Rattle.terms.specs.History.{Stage, afterDrain}
 use Rattle.terms.specs.Rules.{isStored, isDrained}
 use Rattle.terms.proofs.Invariant.{SettledAt, Staged, dirtyAt}
 use Rattle.terms.proofs.Stages.{drained-cleaned, cleaned-before}
-use Rattle.terms.proofs.SettledBytes.{Placed, placed, settled-over, settled-same, drained-over, drained-byte, drained-none, unmet-below, half-over, placed-half, settled-half, outside-stored, settled-buffered, buffered-over, new-stored}
+use Rattle.terms.proofs.SettledBytes.{settled-over, settled-same, drained-over, drained-byte, drained-none, unmet-below, half-over, settled-half, outside-stored, settled-buffered, buffered-over, new-stored}
 pub use Rattle.terms.proofs.SettledBytes.{Outside}
 
 -- ---- a dirty half sent out
 
-module _ (n : ℕ) (dirty : Bool) (b : Backing) (k : Placed n b) (block : ℕ) (store : List ℕ) (a : ℕ) (long : a + 16 ≤ length store) where
+module _ (n : ℕ) (dirty : Bool) (b : Backing) (k : BackingIs n b) (block : ℕ) (store : List ℕ) (a : ℕ) (long : a + 16 ≤ length store) where
   byte-sent : (x : ℕ) → getD (take 16 (drop a store)) (x % 16) 0 ≡ getD store (a + x % 16) 0
   byte-sent x = getD-take 16 (drop a store) (x % 16) 0 (omega arith) ∙ getD-drop a store (x % 16) 0
 
@@ -40,13 +41,6 @@ module _ (n : ℕ) (dirty : Bool) (b : Backing) (k : Placed n b) (block : ℕ) (
       by true false e = half-over n b k block (take 16 (drop a store)) x ∙ rw e
       by false true e = refl
       by false false e = refl
-
-  placed-sent : block * 16 + 16 ≤ n → Placed n (halfSent dirty b block store a)
-  placed-sent h = by dirty
-    where
-      by : (d : Bool) → Placed n (halfSent d b block store a)
-      by true = placed-half n b k block (take 16 (drop a store)) h (length-take-le 16 (drop a store) (rw (length-drop a store) (omega arith)))
-      by false = k
 
   settled-sent : (pm : List ℕ) (x : ℕ) → (x / 16 ≡ block → getD store (a + x % 16) 0 ≡ getD pm x 0) → SettledAt b pm x → SettledAt (halfSent dirty b block store a) pm x
   settled-sent pm x h s = by dirty
@@ -62,14 +56,14 @@ module _ (n : ℕ) (b : Backing) (k : BackingIs n b) where
   -- ---- a drain
 
   pub below-drained : (x : ℕ) → below (drained b) x ≡ below b x
-  below-drained x = drained-over n b (placed n b k) x
+  below-drained x = drained-over n b k x
 
   pub drained-memory-below : (x : ℕ) → getD (drained b .memory) x 0 ≡ below b x
-  drained-memory-below x = drained-byte n b (placed n b k) x
+  drained-memory-below x = drained-byte n b k x
 
   pub settled-drained : (pm : List ℕ) (x : ℕ) → below b x ≡ getD pm x 0 → SettledAt (drained b) pm x
   settled-drained pm x e =
-      record { in-memory = drained-memory-below x ∙ e; in-entries = λ j t. clash t (drained-none n b (placed n b k) j x) }
+      record { in-memory = drained-memory-below x ∙ e; in-entries = λ j t. clash t (drained-none n b k j x) }
 
   pub staged-drained : (pm : List ℕ) (stage : ℕ → Stage) → Staged b pm stage → Staged (drained b) pm (λ x. afterDrain (stage x))
   staged-drained pm stage s =
@@ -87,7 +81,7 @@ module _ (n : ℕ) (b : Backing) (k : BackingIs n b) where
   pub ready-memory-below : (a c x : ℕ) → a ≤ x → x < a + c → getD (ready b a c .memory) x 0 ≡ below b x
   unfolding ready
   ready-memory-below a c x h l =
-      case (holds (b .buffer) a c) (λ t. rw t (drained-memory-below x)) (λ t. rw t (unmet-below n b (placed n b k) a c x t h l))
+      case (holds (b .buffer) a c) (λ t. rw t (drained-memory-below x)) (λ t. rw t (unmet-below n b k a c x t h l))
 
   pub staged-ready : (pm : List ℕ) (stage : ℕ → Stage) (a c : ℕ) → Staged b pm stage → Staged (ready b a c) pm stage
   unfolding ready
@@ -103,18 +97,18 @@ module _ (n : ℕ) (b : Backing) (k : BackingIs n b) where
 
   -- ---- the dirty halves of a line sent out
 
-  module _ (l : Line) (store : List ℕ) (a : ℕ) (inside : l .frame * 32 + 32 ≤ n) (long : a + 32 ≤ length store) where
+  module _ (l : Line) (store : List ℕ) (a : ℕ) (bytes : Bytes store) (inside : l .frame * 32 + 32 ≤ n) (long : a + 32 ≤ length store) where
     abbrev low-sent : Backing
     low-sent = halfSent (l .low) b (l .frame * 2) store a
 
-    placed-low : Placed n low-sent
-    placed-low = placed-sent n (l .low) b (placed n b k) (l .frame * 2) store a (omega arith) (omega arith)
+    low-is : BackingIs n low-sent
+    low-is = half-sent-kept n (l .low) b (l .frame * 2) store a (λ t. omega arith) bytes (omega arith) k
 
     pub below-sent : (x : ℕ) → below (halvesSent b l store a) x ≡ cond (eqb (x / 32) (l .frame) && dirtyAt l x) (getD store (a + x % 32) 0) (below b x)
     unfolding halvesSent
     below-sent x =
-        below-half n (l .high) low-sent placed-low (l .frame * 2 + 1) store (a + 16) (omega arith) x
-        ∙ ap (λ (y : ℕ). cond (eqb (x / 16) (l .frame * 2 + 1) && l .high) (getD store (a + 16 + x % 16) 0) y) (below-half n (l .low) b (placed n b k) (l .frame * 2) store a (omega arith) x)
+        below-half n (l .high) low-sent low-is (l .frame * 2 + 1) store (a + 16) (omega arith) x
+        ∙ ap (λ (y : ℕ). cond (eqb (x / 16) (l .frame * 2 + 1) && l .high) (getD store (a + 16 + x % 16) 0) y) (below-half n (l .low) b k (l .frame * 2) store a (omega arith) x)
         ∙ case (eqb (x / 32) (l .frame))
         (λ t.
         let e : x / 32 ≡ l .frame = eqb-true (x / 32) (l .frame) t in
@@ -135,9 +129,9 @@ module _ (n : ℕ) (b : Backing) (k : BackingIs n b) where
         → (x : ℕ) → SettledAt b pm x → SettledAt (halvesSent b l store a) pm x
     unfolding halvesSent
     settled-halves pm h x s =
-        settled-sent n (l .high) low-sent placed-low (l .frame * 2 + 1) store (a + 16) (omega arith) pm x
+        settled-sent n (l .high) low-sent low-is (l .frame * 2 + 1) store (a + 16) (omega arith) pm x
         (λ e. let q : a + 16 + x % 16 ≡ a + x % 32 = omega arith in ap (λ (i : ℕ). getD store i 0) q ∙ h x (omega arith))
-        (settled-sent n (l .low) b (placed n b k) (l .frame * 2) store a (omega arith) pm x
+        (settled-sent n (l .low) b k (l .frame * 2) store a (omega arith) pm x
         (λ e. let q : a + x % 16 ≡ a + x % 32 = omega arith in ap (λ (i : ℕ). getD store i 0) q ∙ h x (omega arith)) s)
 
     pub staged-sent : (pm : List ℕ) (stage : ℕ → Stage) → ((x : ℕ) → x / 32 ≡ l .frame → getD store (a + x % 32) 0 ≡ getD pm x 0)
@@ -181,14 +175,14 @@ module _ (n : ℕ) (b : Backing) (k : BackingIs n b) where
       -- into the buffer
       pub below-buffered : (x : ℕ) → (Outside (pa .0) w x → below b x ≡ getD pm x 0) → below (buffered b pa w v) x ≡ getD (stored w pm (pa .0) v) x 0
       below-buffered x h =
-          buffered-over n b (placed n b k) pa w v x fits ∙ new-stored pm (pa .0) w v x (below b x) fits (omega arith) h
+          buffered-over n b k pa w v x fits ∙ new-stored pm (pa .0) w v x (below b x) fits (omega arith) h
 
       pub staged-buffered : StoredTo (pa .0) → Staged b pm stage → Staged (buffered b pa w v) (stored w pm (pa .0) v) after
       staged-buffered =
           staged-store (pa .0) (buffered b pa w v) (λ x o e. below-buffered x (λ z. e))
           (λ x o e.
           settled-same (buffered b pa w v) pm (stored w pm (pa .0) v) x (sym (outside-stored w pm (pa .0) v x o))
-          (settled-buffered n b (placed n b k) pm pa w v x fits o e))
+          (settled-buffered n b k pm pa w v x fits o e))
 
       -- into memory, after a drain
       abbrev pub direct : Backing
@@ -202,7 +196,7 @@ module _ (n : ℕ) (b : Backing) (k : BackingIs n b) where
             in-memory =
                 sym (as-stored m (pa .0) w v x fits (omega arith))
                 ∙ new-stored pm (pa .0) w v x (getD m x 0) fits (omega arith) (λ o. drained-memory-below x ∙ h o);
-            in-entries = λ j t. clash t (drained-none n b (placed n b k) j x);
+            in-entries = λ j t. clash t (drained-none n b k j x);
           }
 
       pub below-direct : (x : ℕ) → (Outside (pa .0) w x → below b x ≡ getD pm x 0) → below direct x ≡ getD (stored w pm (pa .0) v) x 0

@@ -25,7 +25,7 @@ use Rattle.buffer.proofs.Joining.{newest-below}
 use Rattle.buffer.proofs.Below.{over, below, laid-slot, empty-masks, Behind, Good, drained-below, drained-memory}
 use Rattle.buffer.proofs.Lengths.{BufferShape, memory-oldest, memory-behind, slot-oldest, used-oldest, slot-drained, slot-behind, slot-other, used-behind, shape-oldest, shape-behind}
 use Rattle.buffer.proofs.StoredBelow.{or-bit, mask-before, mask-in, mask-behind, laidOver, as-stored, newest-block, over-away, half-below, buffered-below}
-use Rattle.soundness.proofs.BackingKept.{BackingIs}
+use Rattle.soundness.proofs.BackingKept.{BackingIs, oldest-kept}
 use Rattle.terms.proofs.Invariant.{SettledAt}
 
 -- byte x is none of the w bytes from a on
@@ -33,18 +33,6 @@ abbrev pub Outside : ℕ → ℕ → ℕ → Type 0
 Outside a w x = a ≤ x → x < a + w → ⊥
 
 -- ---- the places of a backing
-
--- eight places of sixteen bytes, of which the first `used` hold entries inside a memory of n bytes and the others are empty
-pub record Placed (n : ℕ) (b : Backing) : Type 0 where
-  pub memory-long : length (b .memory) ≡ n
-  pub shape : BufferShape (b .buffer)
-  pub inside : (i : ℕ) → i < b .buffer .used → slotAt (b .buffer) i .block * 16 + 16 ≤ n
-  pub empties : (i : ℕ) → b .buffer .used ≤ i → slotAt (b .buffer) i ≡ emptySlot
-
--- a sound backing
-pub placed : (n : ℕ) (b : Backing) → BackingIs n b → Placed n b
-placed n b k =
-    record { memory-long = k .memory-long; shape = k .shape; inside = λ i h. k .entries i h .sound .inside; empties = k .empties }
 
 good-of : (u long : ℕ) (l : List Slot) → u ≤ length l → ((i : ℕ) → i < u → length (getD l i emptySlot .bytes) ≡ 16)
     → ((i : ℕ) → i < u → getD l i emptySlot .block * 16 + 16 ≤ long) → Good u long l
@@ -54,12 +42,12 @@ good-of (suc u) long [] h f g = absurd (omega arith)
 good-of (suc u) long (s ∷ ss) h f g =
     (f 0 (omega arith), g 0 (omega arith), good-of u long ss (omega arith) (λ i p. f (suc i) (omega arith)) (λ i p. g (suc i) (omega arith)))
 
-module _ (n : ℕ) (b : Backing) (k : Placed n b) where
+module _ (n : ℕ) (b : Backing) (k : BackingIs n b) where
   -- as the laws of the buffer ask it: the entries are good, and the places behind them are empty
   good : Good (b .buffer .used) (length (b .memory)) (b .buffer .slots)
   good =
       good-of (b .buffer .used) (length (b .memory)) (b .buffer .slots) (omega (arith, k .shape .places, k .shape .low)) (λ i h. k .shape .sixteen i)
-      (λ i h. let e = k .memory-long in let q = k .inside i h in omega arith)
+      (λ i h. let e = k .memory-long in let q = k .entries i h .sound .inside in omega arith)
 
   rest : Behind (b .buffer .slots) (b .buffer .used)
   rest =
@@ -73,45 +61,6 @@ module _ (n : ℕ) (b : Backing) (k : Placed n b) where
   -- a place behind the entries masks nothing
   empty-place : (i x : ℕ) → b .buffer .used ≤ i → masks (slotAt (b .buffer) i) x ≡ false
   empty-place i x h = ap (λ (s : Slot). masks s x) (k .empties i h) ∙ empty-masks x
-
-  placed-oldest : Placed n (oldestLeft b)
-  placed-oldest =
-      let u = used-oldest b in
-      record {
-        memory-long = memory-oldest b ∙ k .memory-long;
-        shape = shape-oldest b (k .shape);
-        inside = λ i h. rw (slot-oldest b i) (k .inside (suc i) (omega arith));
-        empties = λ i h. slot-oldest b i ∙ k .empties (suc i) (omega arith);
-      }
-
-  placed-behind : (s : Slot) → b .buffer .used < 8 → s .block * 16 + 16 ≤ n → length (s .bytes) ≡ 16 → Placed n (behind b s)
-  placed-behind s low h long =
-      let u = b .buffer .used in
-      let v = used-behind b s in
-      record {
-        memory-long = ap length (memory-behind b s) ∙ k .memory-long;
-        shape = shape-behind b s low long (k .shape);
-        inside = λ i g.
-            case (eqb i u)
-            (λ t. let e : i ≡ u = eqb-true i u t in rw (e, slot-behind b s (omega (arith, k .shape .places))) h)
-            (λ t. let e = eqb-false i u t in rw (slot-other b s i e) (k .inside i (before i (rw v at g) e)));
-        empties = λ i g. let g′ : u + 1 ≤ i = rw v at g in slot-other b s i (after i g′) ∙ k .empties i (omega arith);
-      }
-    where
-      before : (i : ℕ) → i < b .buffer .used + 1 → (i ≡ b .buffer .used → ⊥) → i < b .buffer .used
-      before i g e = omega arith
-
-      after : (i : ℕ) → b .buffer .used + 1 ≤ i → i ≡ b .buffer .used → ⊥
-      after i g e = omega arith
-
-placed-pushed : (n : ℕ) (b : Backing) (k : Placed n b) (s : Slot) → s .block * 16 + 16 ≤ n → length (s .bytes) ≡ 16 → Placed n (pushed b s)
-unfolding pushed
-placed-pushed n b k s h long =
-    let u = used-oldest b in
-    let l = k .shape .low in
-    case (ltb (b .buffer .used) 8)
-    (λ t. rw t (placed-behind n b k s (ltb-true (b .buffer .used) 8 t) h long))
-    (λ t. rw t (placed-behind n (oldestLeft b) (placed-oldest n b k) s (omega arith) h long))
 
 -- ---- what lies below the cache
 
@@ -132,7 +81,7 @@ settled-same b pm qm x e s = record { in-memory = s .in-memory ∙ e; in-entries
 
 -- ---- a drain
 
-module _ (n : ℕ) (b : Backing) (k : Placed n b) where
+module _ (n : ℕ) (b : Backing) (k : BackingIs n b) where
   pub drained-over : (x : ℕ) → below (drained b) x ≡ below b x
   drained-over x = drained-below b (good n b k) x
 
@@ -159,7 +108,7 @@ meets-none (suc c) a x s e h l =
     next r = omega arith
 
 -- what lies below the cache is memory's byte
-pub unmet-below : (n : ℕ) (b : Backing) (k : Placed n b) (a c x : ℕ) → holds (b .buffer) a c ≡ false → a ≤ x → x < a + c → getD (b .memory) x 0 ≡ below b x
+pub unmet-below : (n : ℕ) (b : Backing) (k : BackingIs n b) (a c x : ℕ) → holds (b .buffer) a c ≡ false → a ≤ x → x < a + c → getD (b .memory) x 0 ≡ below b x
 unfolding holds
 unmet-below n b k a c x e h l =
     let u = b .buffer .used in
@@ -177,14 +126,14 @@ unmet-below n b k a c x e h l =
 
 -- ---- an entry pushed
 
-module _ (n : ℕ) (b : Backing) (k : Placed n b) (pm : List ℕ) (x : ℕ) (s : SettledAt b pm x) where
+module _ (n : ℕ) (b : Backing) (k : BackingIs n b) (pm : List ℕ) (x : ℕ) (s : SettledAt b pm x) where
   settled-oldest : 0 < b .buffer .used → SettledAt (oldestLeft b) pm x
   unfolding oldestLeft
   settled-oldest h =
       let o = slotAt (b .buffer) 0 in
       record {
         in-memory =
-            laid-slot o (b .memory) x (k .shape .sixteen 0) (let e = k .memory-long in let i = k .inside 0 h in omega arith)
+            laid-slot o (b .memory) x (k .shape .sixteen 0) (let e = k .memory-long in let i = k .entries 0 h .sound .inside in omega arith)
             ∙ case (masks o x) (λ t. rw t (s .in-entries 0 t)) (λ t. rw t (s .in-memory));
         in-entries = λ j t.
             ap (λ (r : Slot). getD (r .bytes) (x % 16) 0) (slot-oldest b j)
@@ -207,7 +156,7 @@ module _ (n : ℕ) (b : Backing) (k : Placed n b) (pm : List ℕ) (x : ℕ) (s :
               ap (λ (r : Slot). getD (r .bytes) (x % 16) 0) e ∙ s .in-entries j (ap (λ (r : Slot). masks r x) (sym e) ∙ t));
         }
 
-settled-pushed : (n : ℕ) (b : Backing) (k : Placed n b) (pm : List ℕ) (x : ℕ) → SettledAt b pm x → (new : Slot)
+settled-pushed : (n : ℕ) (b : Backing) (k : BackingIs n b) (pm : List ℕ) (x : ℕ) → SettledAt b pm x → (new : Slot)
     → (masks new x ≡ true → getD (new .bytes) (x % 16) 0 ≡ getD pm x 0) → SettledAt (pushed b new) pm x
 unfolding pushed
 settled-pushed n b k pm x s new f =
@@ -217,17 +166,13 @@ settled-pushed n b k pm x s new f =
     (λ t. rw t (settled-behind n b k pm x s new f (ltb-true (b .buffer .used) 8 t)))
     (λ t.
     let q = ltb-false (b .buffer .used) 8 t in
-    rw t (settled-behind n (oldestLeft b) (placed-oldest n b k) pm x (settled-oldest n b k pm x s (omega arith)) new f (omega arith)))
+    rw t (settled-behind n (oldestLeft b) (oldest-kept n b k) pm x (settled-oldest n b k pm x s (omega arith)) new f (omega arith)))
 
 -- ---- a half pushed
 
-module _ (n : ℕ) (b : Backing) (k : Placed n b) (block : ℕ) (bytes : List ℕ) where
+module _ (n : ℕ) (b : Backing) (k : BackingIs n b) (block : ℕ) (bytes : List ℕ) where
   pub half-over : (x : ℕ) → below (halfPushed b block bytes) x ≡ cond (eqb (x / 16) block) (getD bytes (x % 16) 0) (below b x)
   half-over x = half-below (b .memory) (b .buffer .slots) (b .buffer .used) (k .shape .places) (k .shape .low) (rest n b k) (good n b k) block bytes x
-
-  pub placed-half : block * 16 + 16 ≤ n → length bytes ≡ 16 → Placed n (halfPushed b block bytes)
-  unfolding halfPushed
-  placed-half h long = placed-pushed n b k (record { block = block; mask = 65535; bytes = bytes }) h long
 
   pub settled-half : (pm : List ℕ) (x : ℕ) → (x / 16 ≡ block → getD bytes (x % 16) 0 ≡ getD pm x 0) → SettledAt b pm x → SettledAt (halfPushed b block bytes) pm x
   unfolding halfPushed
@@ -290,7 +235,7 @@ module _ (a w v : ℕ) (fits : a % 16 + w ≤ 16) (x : ℕ) where
         let e : x / 16 ≡ a / 16 = eqb-true (x / 16) (s .block) (and-left (eqb (x / 16) (s .block)) (bit (bitOr (s .mask) (maskOf w (a % 16))) (x % 16)) t) ∙ same in
         outside-stored w (s .bytes) (a % 16) v (x % 16) (λ h l. o (omega arith) (omega arith))
 
-pub settled-buffered : (n : ℕ) (b : Backing) (k : Placed n b) (pm : List ℕ) (pa : PhysicalAddress) (w v x : ℕ) → pa .0 % 16 + w ≤ 16
+pub settled-buffered : (n : ℕ) (b : Backing) (k : BackingIs n b) (pm : List ℕ) (pa : PhysicalAddress) (w v x : ℕ) → pa .0 % 16 + w ≤ 16
     → Outside (pa .0) w x → SettledAt b pm x → SettledAt (buffered b pa w v) pm x
 unfolding buffered
 settled-buffered n b k pm pa w v x fits o s = by (newestOf (b .buffer .slots) (blockOf pa) (b .buffer .used)) refl
@@ -318,7 +263,7 @@ settled-buffered n b k pm pa w v x fits o s = by (newestOf (b .buffer .slots) (b
               ap (λ (r : Slot). getD (r .bytes) (x % 16) 0) q ∙ s .in-entries j (ap (λ (r : Slot). masks r x) (sym q) ∙ t));
         }
 
-pub buffered-over : (n : ℕ) (b : Backing) (k : Placed n b) (pa : PhysicalAddress) (w v x : ℕ) → pa .0 % 16 + w ≤ 16
+pub buffered-over : (n : ℕ) (b : Backing) (k : BackingIs n b) (pa : PhysicalAddress) (w v x : ℕ) → pa .0 % 16 + w ≤ 16
     → below (buffered b pa w v) x ≡ laidOver (newSlot (blockOf pa) w (pa .0 % 16) v) x (below b x)
 buffered-over n b k pa w v x fits =
     buffered-below (b .memory) (b .buffer .slots) (b .buffer .used) (k .shape .places) (k .shape .low) (rest n b k) (good n b k) pa w v x fits
