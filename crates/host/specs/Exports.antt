@@ -12,7 +12,7 @@ use Rattle.walk.specs.declared.Mapping.{Mapping}
 use Rattle.walk.specs.declared.Mapping.the-variants.{Found, Failed}
 use Rattle.tlb.specs.Packing.{entriesOf, wordOf}
 use Rattle.plain.specs.Plain.{Plain}
-use Rattle.plain.specs.Run.{Left}
+use Rattle.plain.specs.Run.{PlainLeft}
 use Rattle.cache.specs.Packing.{sideOf}
 use Rattle.sound.specs.Machine.{Machine}
 use Rattle.sound.specs.Soundness.{sound}
@@ -34,16 +34,18 @@ abbrev pub walkCode : List ℕ → ℕ → ℕ → ℕ
 walkCode memory base va = mappingCode (walk memory (base / 16384 * 16384) (record { 0 = va }))
 
 -- what a run of the plain machine leaves
-abbrev pub leftOf : List ℕ → List ℕ → PlainRan → Left
+abbrev pub leftOf : List ℕ → List ℕ → PlainRan → PlainLeft
 leftOf memory answers r =
     record {
-      plain = record {
-        memory = memory;
-        registers = record { control = r .control; base = r .base; domains = r .domains; fsr = r .fsr; far = r .far };
-        calls = r .calls;
+      left = record {
+        machine = record {
+          memory = memory;
+          registers = record { control = r .control; base = r .base; domains = r .domains; fsr = r .fsr; far = r .far };
+          calls = r .calls;
+        };
+        answers = answers;
+        made = r .made;
       };
-      answers = answers;
-      made = r .made;
       refusal = r .refusal;
     }
 

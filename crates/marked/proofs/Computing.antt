@@ -19,8 +19,8 @@ use Rattle.cp15.specs.Operations as cp15
 use Rattle.step.specs.Refusals.{refusal, stateRefusal}
 use Rattle.step.specs.Start.{startRefusal, started}
 use Rattle.step.specs.Call.{served}
-use Rattle.step.specs.Run.{answers, final}
+use Rattle.trace.specs.Fold.{answersOf, finalOf}
 
 unfoldable pub computing : Unit {0}
-unfolding kept listed controlRead all any sum firstFrom stored valueAt signedBy rights descriptorAt first second walk covers lookup translated apOf placed flushed dropped buffer.laid buffer.oldestLeft buffer.leaving buffer.drained buffer.behind buffer.pushed buffer.halfPushed buffer.newestOf buffer.joined buffer.buffered buffer.meets buffer.holds buffer.ready cache.find cache.hitLoad cache.hitStore cache.halvesSent cache.lineRead cache.filled cache.cleanedAt cache.cleaned cache.flushedAt cache.lineFlushed cache.allFlushed fresh sound tagsSound tagTwice entrySound lineSound slotSound bufferSound registersSound countsSound zeroOutside cleared translation walkedOnly checkedBy faultSet access.faulted access.committed access.translate access.reach access.loadHit access.loadFill access.loadUncached access.loadMiss access.loadAt access.load access.storeHit access.storeBuffered access.storeDirect access.storeMiss access.storeAt access.store readOf writtenOf cp15.operated cp15.read cp15.write refusal stateRefusal startRefusal started served answers final
+unfolding kept listed controlRead all any sum firstFrom stored valueAt signedBy rights descriptorAt first second walk covers lookup translated apOf placed flushed dropped buffer.laid buffer.oldestLeft buffer.leaving buffer.drained buffer.behind buffer.pushed buffer.halfPushed buffer.newestOf buffer.joined buffer.buffered buffer.meets buffer.holds buffer.ready cache.find cache.hitLoad cache.hitStore cache.halvesSent cache.lineRead cache.filled cache.cleanedAt cache.cleaned cache.flushedAt cache.lineFlushed cache.allFlushed fresh sound tagsSound tagTwice entrySound lineSound slotSound bufferSound registersSound countsSound zeroOutside cleared translation walkedOnly checkedBy faultSet access.faulted access.committed access.translate access.reach access.loadHit access.loadFill access.loadUncached access.loadMiss access.loadAt access.load access.storeHit access.storeBuffered access.storeDirect access.storeMiss access.storeAt access.store readOf writtenOf cp15.operated cp15.read cp15.write refusal stateRefusal startRefusal started served answersOf finalOf
 computing = tt

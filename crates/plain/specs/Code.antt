@@ -1,6 +1,6 @@
 -- What the code holds of the plain machine, beside the lent memory.
 use mathlib.Core.Bool.{true}
-use Prim.Native.Nat.{ℕ, _*_, _<_, _≤_, _%_}
+use Prim.Native.Nat.{ℕ, _<_, _≤_, _%_}
 use mathlib.Core.Path.{_≡_}
 use mathlib.Core.List.{List}
 use lib.ListN.{length}
@@ -12,7 +12,8 @@ use Rattle.translation.specs.declared.Place.{Place}
 use Rattle.plain.specs.declared.PlainState.{PlainState}
 use Rattle.plain.specs.declared.Outcome.{Outcome}
 use Rattle.plain.specs.declared.Ran.{Ran}
-use Rattle.plain.specs.Run.{Left}
+use Rattle.trace.specs.Fold.{Holds}
+use Rattle.plain.specs.Run.{PlainLeft}
 use Rattle.plain.specs.Plain.{Plain, PlainStepped}
 
 abbrev pub plainOf : List ℕ → PlainState → Plain
@@ -22,13 +23,13 @@ abbrev pub steppedOf : List ℕ → Outcome → PlainStepped
 steppedOf memory o = record { plain = plainOf memory (o .state); answer = o .answer }
 
 -- what a run leaves, with the lent lists
-abbrev pub leftOf : List ℕ → List ℕ → Ran → Left
-leftOf memory answers r = record { plain = plainOf memory (r .state); answers = answers; made = r .made; refusal = r .refusal }
+abbrev pub leftOf : List ℕ → List ℕ → Ran → PlainLeft
+leftOf memory answers r =
+    record { left = record { machine = plainOf memory (r .state); answers = answers; made = r .made }; refusal = r .refusal }
 
 -- n calls fit both lists, and memory's length fits
 pub record Runs (memory calls answers : List ℕ) (n : ℕ) : Type 0 where
-  pub calls-hold : n * 5 ≤ length calls
-  pub answers-hold : n ≤ length answers
+  pub held : Holds calls answers n
   pub whole : length memory % 32 ≡ 0
   pub short : length memory ≤ 16777216
 

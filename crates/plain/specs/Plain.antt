@@ -1,7 +1,7 @@
 -- "The plain machine gets the start's memory and each call's arguments, no answers." It has no TLB, cache or buffer.
 use Prim.Native.Nat.{ℕ, _+_}
 use mathlib.Core.Bool.{Bool, true, false, cond, _&&_}
-use mathlib.Core.List.{List, [], _∷_}
+use mathlib.Core.List.{List}
 use lib.Dec.{eqb}
 use lib.ListN.{length}
 use Rattle.values.specs.Control.{mmu}
@@ -27,6 +27,7 @@ use Rattle.translation.specs.declared.Checked.{Checked}
 use Rattle.translation.specs.declared.Checked.the-variants.{Passed, Denied}
 use Rattle.registers.specs.Refusals.{countRefusal, callRefusal}
 use Rattle.registers.specs.Registers.{readOf, writtenOf}
+use Rattle.trace.specs.Fold.{answersOf, finalOf}
 
 -- "It holds memory, and the five registers and a count of calls"
 pub record Plain : Type 0 where
@@ -116,11 +117,16 @@ plainBy p c n = cond (eqb n 0) (plainDone (counted p) c) (record { plain = p; an
 unfoldable pub plainly : Plain → Call → PlainStepped
 plainly p c = plainBy p c (plainRefusal p c)
 
--- a list of calls: the answers, and the machine after them
-unfoldable pub plainAnswers : Plain → List Call → List Answer
-plainAnswers p [] = []
-plainAnswers p (c ∷ cs) = plainly p c .answer ∷ plainAnswers (plainly p c .plain) cs
+-- the step of a run: the machine that a call leaves, and its answer
+abbrev pub plainNext : Plain → Call → Plain
+plainNext p c = plainly p c .plain
 
-unfoldable pub plainFinal : Plain → List Call → Plain
-plainFinal p [] = p
-plainFinal p (c ∷ cs) = plainFinal (plainly p c .plain) cs
+abbrev pub plainAnswered : Plain → Call → Answer
+plainAnswered p c = plainly p c .answer
+
+-- a list of calls: the answers, and the machine after them
+abbrev pub plainAnswers : Plain → List Call → List Answer
+plainAnswers = answersOf plainNext plainAnswered
+
+abbrev pub plainFinal : Plain → List Call → Plain
+plainFinal = finalOf plainNext plainAnswered

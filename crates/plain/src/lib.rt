@@ -10,6 +10,7 @@ ghost use Rattle.words.specs.Signed.{loadAnswer};
 ghost use Rattle.translation.specs.Ranges.{CheckedIs, PlaceRanged};
 ghost use Rattle.translation.specs.Alignment as aligned;
 ghost use Rattle.registers.specs.Refusals as refused;
+ghost use Rattle.trace.specs.Fold.{callsIn};
 ghost use Rattle.plain.specs.Plain as spec;
 ghost use Rattle.plain.specs.Run as runs;
 ghost use Rattle.plain.specs.Code.{plainOf, steppedOf, leftOf, Kept, Steps, Inside, Runs};
@@ -263,7 +264,7 @@ fn run_calls(
     requires { ⌜ (now table ≡ rightsTable) × Runs (now memory) (now calls) (now answers) n ⌝ }
     ensures { λ r.
         ⌜ leftOf (now (memory .exit)) (now (answers .exit)) r
-        ≡ runs.leftBy (now (answers .entry)) (runs.ranFrom n (spec.plainStart (now (memory .entry))) (now (calls .entry)) 0) ⌝ }
+        ≡ record { left = runs.leftBy (spec.plainStart (now (memory .entry))) (callsIn n (now (calls .entry)) 0) (now (answers .entry)); refusal = 0 } ⌝ }
 {
     let mut s = zero_state();
     let mut i: usize = 0;

@@ -20,6 +20,7 @@ use Rattle.tlb.specs.Packing.{entryOf}
 use Rattle.buffer.specs.Packing.{slotsOf}
 use Rattle.buffer.proofs.Slots.{slot-at, length-slots}
 use Rattle.cache.specs.Packing.{lineOf}
+use Rattle.sound.specs.Machine.{Machine}
 use Rattle.sound.specs.Formed.{Formed}
 use Rattle.soundness.proofs.Parts.{same-at}
 use Rattle.values.specs.declared.Cp15.{Cp15}
@@ -29,7 +30,8 @@ use Rattle.access.specs.Access.{Stepped}
 use Rattle.step.specs.Refusals.{stateRefusal}
 use Rattle.step.specs.Call.{served}
 use Rattle.step.specs.Code.{Serves}
-use Rattle.step.specs.Batch.{Left, leftBy, folded}
+use Rattle.trace.specs.Fold.{callsIn, Left}
+use Rattle.step.specs.Batch.{leftBy}
 use Rattle.sa110.specs.State.{bytesOf, machineIn, calledOf, ranOf}
 use Rattle.sa110.specs.declared.State.{State}
 use Rattle.sa110.specs.declared.SlotBytes.{SlotBytes}
@@ -126,8 +128,8 @@ module _ (memory store : List ℕ) (s : State) (r : Cp15) (bs : List (List ℕ))
       rw (g, a .size) (subst (λ (x : List (List ℕ)). steppedOf k fs (length memory) o ≡ served (machineOf (listsIn memory store s x) (s .entries) (smallIn s r) (length memory)) c) b e)
 
   pub ran-by : (k : Lists) (fs answers : List ℕ) (t : Small) (made : ℕ) (held : List SlotBytes) (n : ℕ) (calls old : List ℕ)
-      → _≡_ {A = Left} (record { machine = machineOf k fs t (length memory); answers = answers; made = made })
-      (leftBy old (folded n (machineOf (listsIn memory store s bs) (s .entries) (smallIn s r) (length memory)) calls 0))
+      → _≡_ {A = Left Machine} (record { machine = machineOf k fs t (length memory); answers = answers; made = made })
+      (leftBy (machineOf (listsIn memory store s bs) (s .entries) (smallIn s r) (length memory)) (callsIn n calls 0) old)
       → bytesOf held ≡ k .bytes
       → ranOf (k .memory) (k .store) answers (record {
         state = record {
@@ -143,7 +145,7 @@ module _ (memory store : List ℕ) (s : State) (r : Cp15) (bs : List (List ℕ))
         cp15 = t .cp15;
         made = made;
       })
-      ≡ leftBy old (folded n (machineIn memory store s r) calls 0)
+      ≡ leftBy (machineIn memory store s r) (callsIn n calls 0) old
   ran-by k fs answers t made held n calls old e g =
       let a = acc in
-      rw (g, a .size) (subst (λ (x : List (List ℕ)). _≡_ {A = Left} (record { machine = machineOf k fs t (length memory); answers = answers; made = made }) (leftBy old (folded n (machineOf (listsIn memory store s x) (s .entries) (smallIn s r) (length memory)) calls 0))) b e)
+      rw (g, a .size) (subst (λ (x : List (List ℕ)). _≡_ {A = Left Machine} (record { machine = machineOf k fs t (length memory); answers = answers; made = made }) (leftBy (machineOf (listsIn memory store s x) (s .entries) (smallIn s r) (length memory)) (callsIn n calls 0) old)) b e)

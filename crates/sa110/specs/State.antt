@@ -10,7 +10,7 @@ use Rattle.sa110.specs.declared.SlotBytes.{SlotBytes}
 use Rattle.sa110.specs.declared.State.{State}
 use Rattle.sa110.specs.declared.Called.{Called}
 use Rattle.sa110.specs.declared.Ran.{Ran}
-use Rattle.step.specs.Batch.{Left}
+use Rattle.trace.specs.Fold.{Left}
 use Rattle.step.specs.Start as starts
 use Rattle.sa110.specs.declared.Started.{Started}
 
@@ -31,7 +31,7 @@ abbrev pub calledOf : List ℕ → List ℕ → Called → Stepped
 calledOf memory store c = record { machine = machineIn memory store (c .state) (c .cp15); answer = c .answer }
 
 -- what a run leaves, with the lent lists
-abbrev pub ranOf : List ℕ → List ℕ → List ℕ → Ran → Left
+abbrev pub ranOf : List ℕ → List ℕ → List ℕ → Ran → Left Machine
 ranOf memory store answers r = record { machine = machineIn memory store (r .state) (r .cp15); answers = answers; made = r .made }
 
 -- what a start leaves, with the lent bytes

@@ -20,7 +20,8 @@ ghost use Rattle.step.specs.Call as spec;
 ghost use Rattle.step.specs.Batch as batch;
 ghost use Rattle.step.specs.Start as starts;
 ghost use Rattle.sa110.specs.Look as looks;
-ghost use Rattle.step.specs.Code.{Serves, Holds};
+ghost use Rattle.step.specs.Code.{Serves};
+ghost use Rattle.trace.specs.Fold.{callsIn, Holds};
 ghost use Rattle.sa110.specs.State.{bytesOf, machineIn, calledOf, ranOf, startedOf};
 use access::Small;
 use values::Answer;
@@ -223,7 +224,7 @@ fn run_served(
     requires { ⌜ (stateRefusal (machineIn (now memory) (now store) state cp15) 0 ≡ 0) × Holds (now calls) (now answers) n ⌝ }
     ensures { λ r.
         ⌜ ranOf (now (memory .exit)) (now (store .exit)) (now (answers .exit)) r
-        ≡ batch.leftBy (now (answers .entry)) (batch.folded n (machineIn (now (memory .entry)) (now (store .entry)) state cp15) (now (calls .entry)) 0) ⌝ }
+        ≡ batch.leftBy (machineIn (now (memory .entry)) (now (store .entry)) state cp15) (callsIn n (now (calls .entry)) 0) (now (answers .entry)) ⌝ }
 {
     let table = rights::table();
     let mut entries = state.entries;

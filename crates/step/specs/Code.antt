@@ -1,8 +1,6 @@
 -- What the code of the library's calls asks of the lent lists.
-use Prim.Native.Nat.{ℕ, _*_, _<_, _≤_}
 use mathlib.Core.Path.{_≡_}
 use mathlib.Core.Bool.{true}
-use mathlib.Core.List.{List}
 use lib.ListN.{length}
 use Rattle.sound.specs.Machine.{Machine, memoryOf}
 use Rattle.sound.specs.Soundness.{sound}
@@ -13,8 +11,3 @@ pub record Serves (m : Machine) : Type 0 where
   pub formed : Formed m
   pub is-sound : sound m ≡ true
   pub size : m .size ≡ length (memoryOf m)
-
--- n calls fit both lists
-pub record Holds (calls answers : List ℕ) (n : ℕ) : Type 0 where
-  pub calls-hold : n * 5 ≤ length calls
-  pub answers-hold : n ≤ length answers

@@ -9,7 +9,8 @@ ghost use Rattle.sound.specs.Machine.{Machine};
 ghost use Rattle.step.specs.Refusals.{stateRefusal};
 ghost use Rattle.step.specs.Call as spec;
 ghost use Rattle.step.specs.Batch as batch;
-ghost use Rattle.step.specs.Code.{Serves, Holds};
+ghost use Rattle.step.specs.Code.{Serves};
+ghost use Rattle.trace.specs.Fold.{callsIn, Holds, Left};
 use access::Outcome;
 use access::Small;
 use values::Answer;
@@ -167,9 +168,9 @@ pub fn run_calls(
     requires { ⌜ (now table ≡ rightsTable) × (length (now words) ≡ 8) × (length (now bytes) ≡ 8) × Holds (now calls) (now answers) n
         × Serves (machineOf (record { memory = now memory; words = now words; bytes = now bytes; lines = now lines; pointers = now pointers; store = now store }) (now entries) first (length (now memory))) ⌝ }
     ensures { λ r.
-        ⌜ _≡_ {A = batch.Left}
+        ⌜ _≡_ {A = Left Machine}
         (record { machine = machineOf (record { memory = now (memory .exit); words = now (words .exit); bytes = now (bytes .exit); lines = now (lines .exit); pointers = now (pointers .exit); store = now (store .exit) }) (now (entries .exit)) (r .small) (length (now (memory .entry))); answers = now (answers .exit); made = r .made })
-        (batch.leftBy (now (answers .entry)) (batch.folded n (machineOf (record { memory = now (memory .entry); words = now (words .entry); bytes = now (bytes .entry); lines = now (lines .entry); pointers = now (pointers .entry); store = now (store .entry) }) (now (entries .entry)) first (length (now (memory .entry)))) (now (calls .entry)) 0)) ⌝ }
+        (batch.leftBy (machineOf (record { memory = now (memory .entry); words = now (words .entry); bytes = now (bytes .entry); lines = now (lines .entry); pointers = now (pointers .entry); store = now (store .entry) }) (now (entries .entry)) first (length (now (memory .entry)))) (callsIn n (now (calls .entry)) 0) (now (answers .entry))) ⌝ }
 {
     let mut s = first;
     let mut i: usize = 0;
@@ -212,8 +213,8 @@ pub fn calls_held(calls: &[u32], answers: &[u64]) -> usize
 pub fn refuse_calls(calls: &[u32], answers: &mut [u64], n: usize, refusal: u32) -> usize
     requires { ⌜ Holds (now calls) (now answers) n × (refusal ≡ 0 → ⊥) ⌝ }
     ensures { λ r.
-        ⌜ ((m : Machine) → refusal ≡ stateRefusal m 0 → _≡_ {A = batch.Left} (record { machine = m; answers = now (answers .exit); made = r })
-        (batch.leftBy (now (answers .entry)) (batch.folded n m (now (calls .entry)) 0))) ⌝ }
+        ⌜ ((m : Machine) → refusal ≡ stateRefusal m 0 → _≡_ {A = Left Machine} (record { machine = m; answers = now (answers .exit); made = r })
+        (batch.leftBy m (callsIn n (now (calls .entry)) 0) (now (answers .entry)))) ⌝ }
 {
     let mut i: usize = 0;
     while i < n {

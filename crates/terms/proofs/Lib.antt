@@ -23,3 +23,4 @@ pub mod WritesAlike
 pub mod StartAgrees
 pub mod CallsAlike
 pub mod Term3
+pub mod Corollaries

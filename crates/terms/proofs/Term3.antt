@@ -5,6 +5,7 @@ use mathlib.Core.List.{List, [], _∷_}
 use lib.ListN.{length}
 use lib.Seq.{ext-getD}
 use Rattle.values.specs.declared.Call.{Call}
+use Rattle.trace.specs.Fold.{answersOf, finalOf}
 use Rattle.sound.specs.Machine.{Machine, memoryOf}
 use Rattle.step.specs.Start.{started}
 use Rattle.step.specs.Call.{served}
@@ -20,7 +21,7 @@ use Rattle.terms.proofs.CallsAlike.{call-agrees}
 -- a list of calls that keeps the rules, from machines that agree
 pub list-agrees : (m : Machine) (p : Plain) (h : History) → Agrees m p h → (calls : List Call) → AllNumbers calls → Keeps p h calls
     → (answers m calls ≡ plainAnswers p calls) × Agrees (final m calls) (plainFinal p calls) (historyAfter p h calls)
-unfolding answers plainAnswers final plainFinal historyAfter AllNumbers Keeps
+unfolding answersOf finalOf historyAfter AllNumbers Keeps
 list-agrees m p h g [] n k = (refl, g)
 list-agrees m p h g (c ∷ cs) n k =
     let s = call-agrees m p h g c (n .0) (k .0) in

@@ -3,3 +3,4 @@ pub mod Rules
 pub mod Term1
 pub mod Term2
 pub mod Term3
+pub mod Corollaries

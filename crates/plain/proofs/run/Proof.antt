@@ -1,8 +1,8 @@
 use Rattle.plain.specs.Plain.{Plain}
-use Rattle.plain.proofs.Runs.{refused-odd, refused-long, run-by, calls-fit, answers-fit}
+use Rattle.trace.proofs.Folds.{held-by}
+use Rattle.plain.proofs.Runs.{refused-odd, refused-long, run-by}
 use mathlib.Core.Path.{sym, _∙_, ap}
 use denote.Ref.{now}
-use lib.ListN.{length}
 use borrow.Author.Needs.{needs}
 use Rattle.plain.proofs.run.Statement.{statement}
 use Rattle.plain.proofs.run.Tie as tie
@@ -21,7 +21,7 @@ zero-state-requires c κs = search needs
 returns : tie.Need-returns
 returns c = let a = c .before .before .before .before .before .args in
     let m = now (a .memory) in
-    ap (λ (p : Plain). record { plain = p; answers = now (a .answers); made = 0; refusal = 1 }) (c .zero-state .ensures m)
+    ap (λ (p : Plain). record { left = record { machine = p; answers = now (a .answers); made = 0 }; refusal = 1 }) (c .zero-state .ensures m)
     ∙ refused-odd m (now (a .calls)) (now (a .answers)) (c .before .if1 .taken)
 
 -- src/lib.rt:316:20
@@ -32,7 +32,7 @@ zero-state-requires-2 c κs = search needs
 returns-2 : tie.Need-returns-2
 returns-2 c = let a = c .before .before .before .before .before .before .args in
     let m = now (a .memory) in
-    ap (λ (p : Plain). record { plain = p; answers = now (a .answers); made = 0; refusal = 1 }) (c .zero-state2 .ensures m)
+    ap (λ (p : Plain). record { left = record { machine = p; answers = now (a .answers); made = 0 }; refusal = 1 }) (c .zero-state2 .ensures m)
     ∙ refused-long m (now (a .calls)) (now (a .answers)) (c .before .before .if1 .left) (c .before .if2 .taken)
 
 -- src/lib.rt:321:9
@@ -49,8 +49,7 @@ run-calls-requires c κs = let a = c .before .before .before .before .before .be
     let n = c .before .before .before .before .smaller .ensures in (
       c .before .before .before .table .ensures,
       record {
-        calls-hold = rw n (calls-fit (length (now (a .calls))) (length (now (a .answers))));
-        answers-hold = rw n (answers-fit (length (now (a .calls))) (length (now (a .answers))));
+        held = held-by (now (a .calls)) (now (a .answers)) _ n;
         whole = c .before .before .before .before .before .before .if1 .left;
         short = c .before .before .before .before .before .if2 .left;
       },

@@ -32,7 +32,7 @@ loop-holds c = let a = c .before .before .before .before .args in
 
 -- src/lib.rt:271:13
 is-call-at-requires : tie.Need-is-call-at-requires Inv-loop μ-loop
-is-call-at-requires c κs = omega (arith, c .before .before .before .before .before .before .pre .1 .calls-hold)
+is-call-at-requires c κs = omega (arith, c .before .before .before .before .before .before .pre .1 .held .calls-hold)
 
 -- src/lib.rt:272:13
 same-length : tie.Need-same-length Inv-loop μ-loop
@@ -50,7 +50,7 @@ returns c = let a = c .before .before .before .before .before .before .before .b
 
 -- src/lib.rt:278:13
 call-at-requires : tie.Need-call-at-requires Inv-loop μ-loop
-call-at-requires c κs = omega (arith, c .before .before .before .before .before .before .before .before .pre .1 .calls-hold)
+call-at-requires c κs = omega (arith, c .before .before .before .before .before .before .before .before .pre .1 .held .calls-hold)
 
 -- src/lib.rt:279:13
 step-requires : tie.Need-step-requires Inv-loop μ-loop
@@ -62,11 +62,11 @@ code-requires c κs = search needs
 
 -- src/lib.rt:281:9
 mul-answers : tie.Need-mul-answers Inv-loop μ-loop
-mul-answers c = omega (arith, c .before .before .before .before .before .before .before .before .before .before .before .before .before .before .good .1 .1 .1 .0, c .before .before .before .before .before .before .before .before .before .before .before .before .before .before .pre .1 .answers-hold)
+mul-answers c = omega (arith, c .before .before .before .before .before .before .before .before .before .before .before .before .before .before .good .1 .1 .1 .0, c .before .before .before .before .before .before .before .before .before .before .before .before .before .before .pre .1 .held .answers-hold)
 
 -- src/lib.rt:281:9
 slice-write-answers : tie.Need-slice-write-answers Inv-loop μ-loop
-slice-write-answers c = omega (arith, c .before .before .before .before .before .before .before .before .before .before .before .before .before .before .pre .1 .answers-hold, c .before .before .before .before .before .before .before .before .before .loop .inv .long)
+slice-write-answers c = omega (arith, c .before .before .before .before .before .before .before .before .before .before .before .before .before .before .pre .1 .held .answers-hold, c .before .before .before .before .before .before .before .before .before .loop .inv .long)
 
 -- src/lib.rt:284:9
 add-i : tie.Need-add-i Inv-loop μ-loop

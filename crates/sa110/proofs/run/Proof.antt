@@ -1,4 +1,4 @@
-use Rattle.step.proofs.Runs.{run-as, held-by}
+use Rattle.step.proofs.Runs.{run-as}
 use Rattle.sa110.specs.State.{machineIn}
 use mathlib.Core.Path.{_≡_, sym, _∙_}
 use denote.Ref.{now}
