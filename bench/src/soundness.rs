@@ -2,7 +2,7 @@
 
 use crate::measure::Line;
 use sa110_compare::full::{full, is_full, Tags, TAGS};
-use sa110_compare::packed::{sound, Packed};
+use sa110_compare::packed::{sound, OfModel, Packed};
 use sa110_model::random::Rng;
 use sa110_model::soundness::is_sound;
 use sa110_model::{state, Machine};

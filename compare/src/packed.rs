@@ -1,108 +1,10 @@
 //! A state as the proved library has it: small structs, and lists of packed words.
 
+use sa110_model::state::BLOCK_BYTES;
 use sa110_model::state::{self, Line, PlainRegisters, Registers, Slot, TlbEntry};
-use sa110_model::state::{BLOCK_BYTES, BUFFER_ENTRIES, LINES, SETS, TLB_ENTRIES};
 
-/// The small record: the five registers and the TLB pointer.
-#[repr(C)]
-#[derive(Clone, Copy, Debug, Default, PartialEq, Eq)]
-pub struct Cp15 {
-    pub control: u32,
-    pub base: u32,
-    pub domains: u32,
-    pub fsr: u32,
-    pub far: u32,
-    pub pointer: u32,
-}
-
-/// The five counts.
-#[repr(C)]
-#[derive(Clone, Copy, Debug, Default, PartialEq, Eq)]
-pub struct Counts {
-    pub calls: u32,
-    pub misses: u32,
-    pub hits: u32,
-    pub fills: u32,
-    pub halves: u32,
-}
-
-extern "C" {
-    fn sa110_sound(
-        cp15: Cp15,
-        counts: Counts,
-        entries: *const u64,
-        entries_length: usize,
-        lines: *const u64,
-        lines_length: usize,
-        pointers: *const u32,
-        pointers_length: usize,
-        words: *const u64,
-        words_length: usize,
-        bytes: *const [u8; BLOCK_BYTES],
-        bytes_length: usize,
-        used: usize,
-        n: usize,
-    ) -> u32;
-}
-
-/// What a state is lent as. The lists may have any lengths.
-#[derive(Clone, Copy, Debug, PartialEq, Eq)]
-pub struct Lent<'a> {
-    pub cp15: Cp15,
-    pub counts: Counts,
-    pub entries: &'a [u64],
-    pub lines: &'a [u64],
-    pub pointers: &'a [u32],
-    pub words: &'a [u64],
-    pub bytes: &'a [[u8; BLOCK_BYTES]],
-    pub used: usize,
-}
-
-/// The soundness of a state for a memory of n bytes: 1 sound, 0 unsound, 2 where a list does not fit.
-#[inline]
-pub fn sound(lent: &Lent, n: usize) -> u32 {
-    unsafe {
-        sa110_sound(
-            lent.cp15,
-            lent.counts,
-            lent.entries.as_ptr(),
-            lent.entries.len(),
-            lent.lines.as_ptr(),
-            lent.lines.len(),
-            lent.pointers.as_ptr(),
-            lent.pointers.len(),
-            lent.words.as_ptr(),
-            lent.words.len(),
-            lent.bytes.as_ptr(),
-            lent.bytes.len(),
-            lent.used,
-            n,
-        )
-    }
-}
-
-/// A state in packed words: `size` is the memory's length at the start, `used` the number of buffer
-/// entries.
-#[repr(C)]
-#[derive(Clone, Debug, PartialEq, Eq)]
-pub struct State {
-    pub size: usize,
-    pub counts: Counts,
-    pub used: usize,
-    pub entries: [u64; TLB_ENTRIES],
-    pub lines: [u64; LINES],
-    pub pointers: [u32; SETS],
-    pub words: [u64; BUFFER_ENTRIES],
-    pub bytes: [[u8; BLOCK_BYTES]; BUFFER_ENTRIES],
-}
-
-/// A state and its record.
-#[repr(C)]
-#[derive(Clone, Debug, PartialEq, Eq)]
-pub struct Packed {
-    pub state: State,
-    pub cp15: Cp15,
-}
+pub use sa110::Machine as Packed;
+pub use sa110::{sound, Counts, Cp15, Lent, State};
 
 /// A TLB entry: bit 0 valid, 1 C, 2 B, 3 to 7 size, 8 to 15 domain, 16 to 23 AP0 to AP3, 24 to 43
 /// the physical base and 44 to 63 the virtual base, both divided by 4096. Here as in the words below,
@@ -174,8 +76,17 @@ fn field(w: u64, first: usize, bits: u32) -> u32 {
     (w >> first & ((1 << bits) - 1)) as u32
 }
 
-impl Packed {
-    pub fn of(state: &state::State, registers: &Registers) -> Packed {
+/// A state and record of the second model in packed words, and back.
+pub trait OfModel {
+    fn of(state: &state::State, registers: &Registers) -> Self;
+
+    /// The second model's state and record. A size or number of buffer entries that it has no place
+    /// for becomes the largest that it has.
+    fn unpacked(&self) -> (state::State, Registers);
+}
+
+impl OfModel for Packed {
+    fn of(state: &state::State, registers: &Registers) -> Packed {
         let (r, c) = (&registers.plain, &state.counts);
         Packed {
             state: State {
@@ -205,9 +116,7 @@ impl Packed {
         }
     }
 
-    /// The second model's state and record. A size or number of buffer entries that it has no place
-    /// for becomes the largest that it has.
-    pub fn unpacked(&self) -> (state::State, Registers) {
+    fn unpacked(&self) -> (state::State, Registers) {
         let (p, r, c) = (&self.state, &self.cp15, &self.state.counts);
         let mut state = state::State::ZERO;
         state.memory_length = narrow(p.size);
@@ -232,20 +141,6 @@ impl Packed {
         };
         let tlb_pointer = r.pointer;
         (state, Registers { plain, tlb_pointer })
-    }
-
-    pub fn lent(&self) -> Lent<'_> {
-        let state = &self.state;
-        Lent {
-            cp15: self.cp15,
-            counts: state.counts,
-            entries: &state.entries,
-            lines: &state.lines,
-            pointers: &state.pointers,
-            words: &state.words,
-            bytes: &state.bytes,
-            used: state.used,
-        }
     }
 }
 

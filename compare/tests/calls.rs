@@ -1,10 +1,10 @@
 //! The proved library beside the second model, call by call, through `call` and through `run`.
 
-use sa110_compare::calls::NO_CALL;
 use sa110_compare::damage::{flip_bit, replace_word};
 use sa110_compare::full::{full, Tags, TAGS};
-use sa110_compare::packed::Packed;
+use sa110_compare::packed::{OfModel, Packed};
 use sa110_compare::side_by_side::{Numbers, Setting, Sides, Tally};
+use sa110_compare::NO_CALL;
 use sa110_model::cache::address_of;
 use sa110_model::coverage::Unwatched;
 use sa110_model::random::damage::DAMAGES;

@@ -2,7 +2,7 @@
 
 use sa110_compare::damage::{flip_bit, replace_word};
 use sa110_compare::full::{full, is_full, TAGS};
-use sa110_compare::packed::{sound, Lent, Packed};
+use sa110_compare::packed::{sound, Lent, OfModel, Packed};
 use sa110_model::coverage::Unwatched;
 use sa110_model::random::damage::DAMAGES;
 use sa110_model::random::guided::{free, guided};

@@ -1,0 +1,331 @@
+"""The SA-110 data side for Python, over the shared object that tools/hosts makes of the static libraries.
+
+    import sa110
+    m = sa110.Machine(0x40000)                  # memory of 256 KB, all zeros; memory may also be a bytearray
+    m.put(4, 0x4004, 0xC0E)                     # a store of a word; privileged unless user=True
+    m.write(sa110.BASE, 0x4000)                 # a CP15 write
+    print(m.load(4, 0x4004), m.counts)          # an answer, and the five counts
+    answers, plain, memory = m.plain()          # the calls made so far, on the plain machine
+
+include/sa110.h says what each function of the library does; document 01 is the authority on every meaning. What the library refuses is an answer. A
+ValueError is raised for numbers that do not fit into 32 bits, and an OSError where the shared object is missing.
+"""
+
+import ctypes
+import os
+from ctypes import POINTER, byref, c_size_t, c_uint8, c_uint32, c_uint64
+from typing import NamedTuple
+
+STORE_BYTES = 16384
+FIELDS = 5
+
+# Kinds of call.
+LOAD, SIGNED_LOAD, STORE, READ, WRITE = range(5)
+
+# Registers.
+ID, CONTROL, BASE, DOMAINS = range(4)
+FSR, FAR, CACHE, TLB = range(5, 9)
+
+# Control bits.
+M, A, C, W, S, R = 0x1, 0x2, 0x4, 0x8, 0x100, 0x200
+
+
+def pair(opcode2, crm):
+    """Opcode 2 and CRm of a write of register 7 or 8, as one number."""
+    return opcode2 * 16 + crm
+
+
+# Operations of register 7, and of register 8.
+CACHE_FLUSH, CACHE_FLUSH_LINE, CACHE_CLEAN_LINE, BUFFER_DRAIN = pair(0, 6), pair(1, 6), pair(1, 10), pair(4, 10)
+TLB_FLUSH, TLB_FLUSH_ENTRY = pair(0, 6), pair(1, 6)
+
+REFUSALS = {
+    1: "the memory's length is not a multiple of 32 or exceeds 16,777,216",
+    2: "the cache store is not 16,384 bytes",
+    3: "the state is unsound",
+    4: "the memory's length differs from the one at the start",
+    5: "the count of calls stands at 4,294,967,295",
+    6: "the width is not 1, 2 or 4",
+    7: "the value to store does not fit the width",
+    8: "a CP15 call in user mode",
+    9: "the register cannot be read or written",
+    10: "the pair for register 7 or 8 is not listed",
+    11: "a control write sets bit 7",
+    12: "a control write gives a combination of M, C and W that is not valid",
+}
+
+STATUSES = {
+    1: "alignment",
+    4: "outside memory on a line fill, section",
+    5: "translation, section",
+    6: "outside memory on a line fill, page",
+    7: "translation, page",
+    8: "outside memory, section",
+    9: "domain, section",
+    10: "outside memory, page",
+    11: "domain, page",
+    12: "walk outside memory, level 1",
+    13: "permission, section",
+    14: "walk outside memory, level 2",
+    15: "permission, page",
+}
+
+
+class Registers(ctypes.Structure):
+    """The plain five registers."""
+
+    _fields_ = [("control", c_uint32), ("base", c_uint32), ("domains", c_uint32), ("fsr", c_uint32), ("far", c_uint32)]
+
+
+class Cp15(ctypes.Structure):
+    """The small record: the plain five registers and the TLB pointer."""
+
+    _fields_ = [("registers", Registers), ("pointer", c_uint32)]
+
+
+class CountsStruct(ctypes.Structure):
+    _fields_ = [("calls", c_uint32), ("misses", c_uint32), ("hits", c_uint32), ("fills", c_uint32), ("halves", c_uint32)]
+
+
+class SlotBytes(ctypes.Structure):
+    _fields_ = [("bytes", c_uint8 * 16)]
+
+
+class State(ctypes.Structure):
+    """The state, in the packed words that include/sa110.h describes."""
+
+    _fields_ = [
+        ("size", c_size_t),
+        ("counts", CountsStruct),
+        ("used", c_size_t),
+        ("entries", c_uint64 * 32),
+        ("lines", c_uint64 * 512),
+        ("pointers", c_uint32 * 16),
+        ("words", c_uint64 * 8),
+        ("slots", SlotBytes * 8),
+    ]
+
+
+class PlainRan(ctypes.Structure):
+    """What a run of the plain machine leaves beside memory and answers."""
+
+    _fields_ = [
+        ("control", c_uint32),
+        ("base", c_uint32),
+        ("domains", c_uint32),
+        ("fsr", c_uint32),
+        ("far", c_uint32),
+        ("calls", c_uint32),
+        ("refusal", c_uint32),
+        ("made", c_size_t),
+    ]
+
+
+if ctypes.sizeof(Cp15) != 24 or ctypes.sizeof(State) != 4648 or State.slots.offset != 4520 or ctypes.sizeof(PlainRan) != 40:
+    raise ImportError("sa110: the structs have another layout than the library, which is built for 64 bits")
+
+
+class Counts(NamedTuple):
+    """The five counts: calls, TLB misses, Dcache hits, line fills, halves sent out."""
+
+    calls: int
+    misses: int
+    hits: int
+    fills: int
+    halves: int
+
+
+class Answer(int):
+    """An answer as the library gives it, kind × 2^32 + value, with its parts by name."""
+
+    @property
+    def kind(self):
+        """'value', 'fault', 'refused' or 'no call'."""
+        return ("value", "fault", "refused", "no call")[int(self) >> 32]
+
+    @property
+    def value(self):
+        """The value loaded or read; FSR of a fault; the number of a refusal."""
+        return int(self) & 0xFFFFFFFF
+
+    @property
+    def signed(self):
+        """The value of a signed load."""
+        return self.value - (1 << 32) if self.value >> 31 else self.value
+
+    @property
+    def status(self):
+        return self.value % 16
+
+    @property
+    def domain(self):
+        return self.value // 16 % 16
+
+    def __repr__(self):
+        if self.kind == "value":
+            return f"value {self.value:08x}"
+        if self.kind == "fault":
+            return f"fault, status {self.status:02} domain {self.domain:02} ({STATUSES[self.status]})"
+        if self.kind == "refused":
+            return f"refused by {self.value:02} ({REFUSALS[self.value]})"
+        return "no call"
+
+    __str__ = __repr__
+
+
+_library = None
+
+
+def default_path():
+    """The shared object's path: SA110_LIBRARY, or where tools/hosts puts it."""
+    here = os.path.dirname(os.path.abspath(__file__))
+    return os.environ.get("SA110_LIBRARY") or os.path.normpath(os.path.join(here, "..", "..", "target", "hosts", "libsa110.so"))
+
+
+def load_library(path=None):
+    """Loads the shared object; without this call, the first use of the library does it."""
+    global _library
+    path = path or default_path()
+    if not os.path.exists(path):
+        raise OSError(f"sa110: {path} is missing; tools/hosts makes it, and SA110_LIBRARY names another place")
+    library = ctypes.CDLL(os.path.abspath(path))
+    memory = [POINTER(c_uint8), c_size_t]
+    calls = [POINTER(c_uint32), c_size_t, POINTER(c_uint64), c_size_t]
+    lent = [POINTER(State), POINTER(Cp15)] + memory + memory
+    functions = {
+        "sa110_start_lent": (c_uint32, lent),
+        "sa110_call_lent": (c_uint64, lent + [c_uint32] * 5),
+        "sa110_run_lent": (c_size_t, lent + calls),
+        "sa110_plain_run": (PlainRan, memory + calls),
+        "sa110_sound": (
+            c_uint32,
+            [Cp15, CountsStruct]
+            + [POINTER(c_uint64), c_size_t] * 2
+            + [POINTER(c_uint32), c_size_t, POINTER(c_uint64), c_size_t, POINTER(SlotBytes), c_size_t, c_size_t, c_size_t],
+        ),
+        "sa110_walk": (c_uint64, memory + [c_uint32, c_uint32]),
+        "sa110_right": (c_uint8, [c_uint32]),
+    }
+    for name, (result, arguments) in functions.items():
+        function = getattr(library, name)
+        function.restype, function.argtypes = result, arguments
+    _library = library
+    return library
+
+
+def _lib():
+    return _library or load_library()
+
+
+def _numbers(*numbers):
+    """The numbers, each of 32 bits: ctypes would cut them off."""
+    for x in numbers:
+        if not 0 <= x < 1 << 32:
+            raise ValueError(f"sa110: {x} does not fit into 32 bits")
+    return numbers
+
+
+def _bytes(memory):
+    """A bytearray as pointer and length."""
+    return (c_uint8 * len(memory)).from_buffer(memory), len(memory)
+
+
+def _list(calls):
+    """A list of calls, five numbers each, as an array of numbers."""
+    flat = [x for call in calls for x in call]
+    if any(len(call) != FIELDS for call in calls):
+        raise ValueError("sa110: a call is five numbers")
+    return (c_uint32 * len(flat))(*_numbers(*flat)), len(flat)
+
+
+class Machine:
+    """A state and its record, with the memory and the cache store that are lent to it, the calls made and their answers."""
+
+    def __init__(self, memory, store=None):
+        """Starts. The memory is a bytearray, or the length of one of zeros; `refusal` is 0, 1 or 2."""
+        self.memory = memory if isinstance(memory, bytearray) else bytearray(memory)
+        self.cache_store = bytearray(STORE_BYTES) if store is None else store
+        self.first_memory = bytes(self.memory)
+        self.state, self.cp15 = State(), Cp15()
+        self.calls, self.answers = [], []
+        self.refusal = _lib().sa110_start_lent(*self._lent())
+
+    def _lent(self):
+        return byref(self.state), byref(self.cp15), *_bytes(self.memory), *_bytes(self.cache_store)
+
+    def call(self, kind, privileged, n, a, v):
+        """Makes a call of five numbers and gives its answer."""
+        numbers = _numbers(kind, privileged, n, a, v)
+        answer = Answer(_lib().sa110_call_lent(*self._lent(), *numbers))
+        self.calls.append(numbers)
+        self.answers.append(answer)
+        return answer
+
+    def load(self, width, address, user=False):
+        return self.call(LOAD, 0 if user else 1, width, address, 0)
+
+    def signed_load(self, width, address, user=False):
+        return self.call(SIGNED_LOAD, 0 if user else 1, width, address, 0)
+
+    def put(self, width, address, value, user=False):
+        """A store."""
+        return self.call(STORE, 0 if user else 1, width, address, value)
+
+    def read(self, register, user=False):
+        return self.call(READ, 0 if user else 1, register, 0, 0)
+
+    def write(self, register, value, operation=0, user=False):
+        """A CP15 write; registers 7 and 8 take an operation, such as CACHE_CLEAN_LINE."""
+        return self.call(WRITE, 0 if user else 1, register, operation, value)
+
+    def run(self, calls):
+        """Makes a list of calls in one run and gives the answers of those made: it stops at numbers that are no call."""
+        calls = [tuple(call) for call in calls]
+        answers = (c_uint64 * len(calls))()
+        made = _lib().sa110_run_lent(*self._lent(), *_list(calls), answers, len(calls))
+        self.calls += calls[:made]
+        self.answers += [Answer(x) for x in answers[:made]]
+        return self.answers[len(self.answers) - made :]
+
+    def plain(self):
+        """Makes the calls made so far on the plain machine: its answers, what it leaves, its memory."""
+        memory = bytearray(self.first_memory)
+        answers, ran = plain_run(memory, self.calls)
+        return answers, ran, memory
+
+    def sound(self):
+        """Whether the state is sound for the memory."""
+        s = self.state
+        parts = (s.entries, 32, s.lines, 512, s.pointers, 16, s.words, 8, s.slots, 8)
+        return _lib().sa110_sound(self.cp15, s.counts, *parts, s.used, len(self.memory)) == 1
+
+    @property
+    def counts(self):
+        return Counts(*(getattr(self.state.counts, name) for name in Counts._fields))
+
+    def same(self, other):
+        """Whether state, record, memory and cache store are those of another machine."""
+        fields = all(_value(getattr(self.state, name)) == _value(getattr(other.state, name)) for name, _ in State._fields_)
+        record = bytes(self.cp15) == bytes(other.cp15)
+        return fields and record and self.memory == other.memory and self.cache_store == other.cache_store
+
+
+def _value(x):
+    return x if isinstance(x, int) else bytes(x)
+
+
+def plain_run(memory, calls):
+    """Makes a list of calls on the plain machine over a bytearray: the answers of the calls made, and what it leaves."""
+    answers = (c_uint64 * len(calls))()
+    ran = _lib().sa110_plain_run(*_bytes(memory), *_list(calls), answers, len(calls))
+    return [Answer(x) for x in answers[: ran.made]], ran
+
+
+def walk(memory, base, va):
+    """A walk over a bytearray: the word of a TLB entry, which is odd, or twice the fault's domain × 16 + status."""
+    return _lib().sa110_walk(*_bytes(memory), *_numbers(base, va))
+
+
+def right(index):
+    """The rights table's entry: 0 allowed, 1 domain fault, 2 permission fault; 255 behind its end."""
+    return _lib().sa110_right(*_numbers(index))

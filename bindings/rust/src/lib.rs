@@ -1,0 +1,497 @@
+//! The SA-110 data side for Rust: safe functions over the static library. include/sa110.h says what
+//! each function does; document 01 is the authority on every meaning. Every error is an answer, and
+//! nothing panics.
+
+use std::mem::{offset_of, size_of};
+
+/// The longest memory; a length is a multiple of `LINE_BYTES`, and may be 0.
+pub const MEMORY_MAX: usize = 16_777_216;
+/// The cache store's length.
+pub const STORE_BYTES: usize = 16_384;
+pub const LINE_BYTES: usize = 32;
+pub const BLOCK_BYTES: usize = 16;
+pub const TLB_ENTRIES: usize = 32;
+pub const SETS: usize = 16;
+pub const LINES: usize = 512;
+pub const BUFFER_ENTRIES: usize = 8;
+/// Numbers a call.
+pub const FIELDS: usize = 5;
+
+/// A call: kind, privileged (1 or 0), width or register, address or pair, value.
+pub type Numbers = [u32; FIELDS];
+
+// Kinds of call.
+pub const LOAD: u32 = 0;
+pub const SIGNED_LOAD: u32 = 1;
+pub const STORE: u32 = 2;
+pub const READ: u32 = 3;
+pub const WRITE: u32 = 4;
+
+// Registers.
+pub const ID: u32 = 0;
+pub const CONTROL: u32 = 1;
+pub const BASE: u32 = 2;
+pub const DOMAINS: u32 = 3;
+pub const FSR: u32 = 5;
+pub const FAR: u32 = 6;
+pub const CACHE: u32 = 7;
+pub const TLB: u32 = 8;
+
+// Control bits.
+pub const M: u32 = 0x1;
+pub const A: u32 = 0x2;
+pub const C: u32 = 0x4;
+pub const W: u32 = 0x8;
+pub const S: u32 = 0x100;
+pub const R: u32 = 0x200;
+
+/// Opcode 2 and CRm of a write of register 7 or 8.
+pub const fn pair(opcode2: u32, crm: u32) -> u32 {
+    opcode2 * 16 + crm
+}
+
+// Operations of register 7, and of register 8.
+pub const CACHE_FLUSH: u32 = pair(0, 6);
+pub const CACHE_FLUSH_LINE: u32 = pair(1, 6);
+pub const CACHE_CLEAN_LINE: u32 = pair(1, 10);
+pub const BUFFER_DRAIN: u32 = pair(4, 10);
+pub const TLB_FLUSH: u32 = pair(0, 6);
+pub const TLB_FLUSH_ENTRY: u32 = pair(1, 6);
+
+/// The answer to five numbers that are no call.
+pub const NO_CALL: u64 = 3 << 32;
+
+/// What a call answers.
+#[derive(Clone, Copy, Debug, PartialEq, Eq)]
+pub enum Answer {
+    /// The value loaded or read, a signed one as its 32 bits; 0 for a store and a CP15 write.
+    Value(u32),
+    /// The fault's address is the call's.
+    Fault { status: u32, domain: u32 },
+    /// The refusal's number, 1 to 12; nothing has changed.
+    Refused(u32),
+    /// The numbers are no call; nothing has changed.
+    NoCall,
+}
+
+impl Answer {
+    /// The answer of a code, kind × 2^32 + value.
+    pub fn of(code: u64) -> Answer {
+        let value = code as u32;
+        match code >> 32 {
+            0 => Answer::Value(value),
+            1 => Answer::Fault {
+                status: value % 16,
+                domain: value / 16 % 16,
+            },
+            2 => Answer::Refused(value),
+            _ => Answer::NoCall,
+        }
+    }
+}
+
+/// The small record: the plain five registers and the TLB pointer.
+#[repr(C)]
+#[derive(Clone, Copy, Debug, Default, PartialEq, Eq)]
+pub struct Cp15 {
+    pub control: u32,
+    pub base: u32,
+    pub domains: u32,
+    pub fsr: u32,
+    pub far: u32,
+    pub pointer: u32,
+}
+
+/// The five counts.
+#[repr(C)]
+#[derive(Clone, Copy, Debug, Default, PartialEq, Eq)]
+pub struct Counts {
+    pub calls: u32,
+    pub misses: u32,
+    pub hits: u32,
+    pub fills: u32,
+    pub halves: u32,
+}
+
+/// A state in packed words: `size` is the memory's length at the start, `used` the number of buffer
+/// entries.
+#[repr(C)]
+#[derive(Clone, Debug, PartialEq, Eq)]
+pub struct State {
+    pub size: usize,
+    pub counts: Counts,
+    pub used: usize,
+    pub entries: [u64; TLB_ENTRIES],
+    pub lines: [u64; LINES],
+    pub pointers: [u32; SETS],
+    pub words: [u64; BUFFER_ENTRIES],
+    pub bytes: [[u8; BLOCK_BYTES]; BUFFER_ENTRIES],
+}
+
+/// A state and its record.
+#[repr(C)]
+#[derive(Clone, Debug, PartialEq, Eq)]
+pub struct Machine {
+    pub state: State,
+    pub cp15: Cp15,
+}
+
+/// What a run of the plain machine leaves beside memory and answers.
+#[repr(C)]
+#[derive(Clone, Copy, Debug, PartialEq, Eq)]
+pub struct PlainRan {
+    pub control: u32,
+    pub base: u32,
+    pub domains: u32,
+    pub fsr: u32,
+    pub far: u32,
+    pub calls: u32,
+    pub refusal: u32,
+    pub made: usize,
+}
+
+#[repr(C)]
+struct Started {
+    left: Machine,
+    refusal: u32,
+}
+
+#[repr(C)]
+struct Answered {
+    left: Machine,
+    code: u64,
+}
+
+#[repr(C)]
+struct Ran {
+    left: Machine,
+    made: usize,
+}
+
+// The layout that include/sa110.h states.
+const _: () = {
+    assert!(size_of::<Cp15>() == 24 && size_of::<Counts>() == 20);
+    assert!(size_of::<State>() == 4648 && offset_of!(State, used) == 32);
+    assert!(offset_of!(State, entries) == 40 && offset_of!(State, lines) == 296);
+    assert!(offset_of!(State, pointers) == 4392 && offset_of!(State, words) == 4456);
+    assert!(offset_of!(State, bytes) == 4520 && offset_of!(Machine, cp15) == 4648);
+    assert!(offset_of!(Started, refusal) == 4672 && size_of::<Started>() == 4680);
+    assert!(offset_of!(Answered, code) == 4672 && offset_of!(Ran, made) == 4672);
+    assert!(size_of::<PlainRan>() == 40 && offset_of!(PlainRan, made) == 32);
+};
+
+extern "C" {
+    fn sa110_start_lent(
+        state: *mut State,
+        cp15: *mut Cp15,
+        memory: *const u8,
+        memory_length: usize,
+        store: *const u8,
+        store_length: usize,
+    ) -> u32;
+    fn sa110_call_lent(
+        state: *mut State,
+        cp15: *mut Cp15,
+        memory: *mut u8,
+        memory_length: usize,
+        store: *mut u8,
+        store_length: usize,
+        kind: u32,
+        privileged: u32,
+        n: u32,
+        a: u32,
+        v: u32,
+    ) -> u64;
+    fn sa110_run_lent(
+        state: *mut State,
+        cp15: *mut Cp15,
+        memory: *mut u8,
+        memory_length: usize,
+        store: *mut u8,
+        store_length: usize,
+        calls: *const u32,
+        calls_length: usize,
+        answers: *mut u64,
+        answers_length: usize,
+    ) -> usize;
+    fn sa110_start(
+        memory: *const u8,
+        memory_length: usize,
+        store: *const u8,
+        store_length: usize,
+    ) -> Started;
+    fn sa110_call(
+        state: State,
+        cp15: Cp15,
+        memory: *mut u8,
+        memory_length: usize,
+        store: *mut u8,
+        store_length: usize,
+        kind: u32,
+        privileged: u32,
+        n: u32,
+        a: u32,
+        v: u32,
+    ) -> Answered;
+    fn sa110_run(
+        state: State,
+        cp15: Cp15,
+        memory: *mut u8,
+        memory_length: usize,
+        store: *mut u8,
+        store_length: usize,
+        calls: *const u32,
+        calls_length: usize,
+        answers: *mut u64,
+        answers_length: usize,
+    ) -> Ran;
+    fn sa110_sound(
+        cp15: Cp15,
+        counts: Counts,
+        entries: *const u64,
+        entries_length: usize,
+        lines: *const u64,
+        lines_length: usize,
+        pointers: *const u32,
+        pointers_length: usize,
+        words: *const u64,
+        words_length: usize,
+        bytes: *const [u8; BLOCK_BYTES],
+        bytes_length: usize,
+        used: usize,
+        n: usize,
+    ) -> u32;
+    fn sa110_right(index: u32) -> u8;
+    fn sa110_walk(memory: *const u8, length: usize, base: u32, va: u32) -> u64;
+    fn sa110_plain_run(
+        memory: *mut u8,
+        memory_length: usize,
+        calls: *const u32,
+        calls_length: usize,
+        answers: *mut u64,
+        answers_length: usize,
+    ) -> PlainRan;
+}
+
+impl Machine {
+    /// A state and a record of zeros, which is what a refused start leaves.
+    pub const ZERO: Machine = Machine {
+        state: State {
+            size: 0,
+            counts: Counts {
+                calls: 0,
+                misses: 0,
+                hits: 0,
+                fills: 0,
+                halves: 0,
+            },
+            used: 0,
+            entries: [0; TLB_ENTRIES],
+            lines: [0; LINES],
+            pointers: [0; SETS],
+            words: [0; BUFFER_ENTRIES],
+            bytes: [[0; BLOCK_BYTES]; BUFFER_ENTRIES],
+        },
+        cp15: Cp15 {
+            control: 0,
+            base: 0,
+            domains: 0,
+            fsr: 0,
+            far: 0,
+            pointer: 0,
+        },
+    };
+
+    /// A start: the fresh state and record, and refusal 1 or 2, or 0.
+    pub fn start(memory: &[u8], store: &[u8]) -> (Machine, u32) {
+        let mut left = Machine::ZERO;
+        let refusal = unsafe {
+            sa110_start_lent(
+                &mut left.state,
+                &mut left.cp15,
+                memory.as_ptr(),
+                memory.len(),
+                store.as_ptr(),
+                store.len(),
+            )
+        };
+        (left, refusal)
+    }
+
+    /// A call of five numbers; gives the answer's code, or `NO_CALL`.
+    #[inline]
+    pub fn call(&mut self, memory: &mut [u8], store: &mut [u8], numbers: &Numbers) -> u64 {
+        let [kind, privileged, n, a, v] = *numbers;
+        unsafe {
+            sa110_call_lent(
+                &mut self.state,
+                &mut self.cp15,
+                memory.as_mut_ptr(),
+                memory.len(),
+                store.as_mut_ptr(),
+                store.len(),
+                kind,
+                privileged,
+                n,
+                a,
+                v,
+            )
+        }
+    }
+
+    /// A run over five numbers a call; gives how many calls it made.
+    #[inline]
+    pub fn run(
+        &mut self,
+        memory: &mut [u8],
+        store: &mut [u8],
+        calls: &[u32],
+        answers: &mut [u64],
+    ) -> usize {
+        unsafe {
+            sa110_run_lent(
+                &mut self.state,
+                &mut self.cp15,
+                memory.as_mut_ptr(),
+                memory.len(),
+                store.as_mut_ptr(),
+                store.len(),
+                calls.as_ptr(),
+                calls.len(),
+                answers.as_mut_ptr(),
+                answers.len(),
+            )
+        }
+    }
+
+    /// `start` by the function that gives state and record by value.
+    pub fn start_by_value(memory: &[u8], store: &[u8]) -> (Machine, u32) {
+        let started =
+            unsafe { sa110_start(memory.as_ptr(), memory.len(), store.as_ptr(), store.len()) };
+        (started.left, started.refusal)
+    }
+
+    /// `call` by the function that takes state and record by value.
+    #[inline]
+    pub fn call_by_value(&mut self, memory: &mut [u8], store: &mut [u8], numbers: &Numbers) -> u64 {
+        let [kind, privileged, n, a, v] = *numbers;
+        let answered = unsafe {
+            sa110_call(
+                self.state.clone(),
+                self.cp15,
+                memory.as_mut_ptr(),
+                memory.len(),
+                store.as_mut_ptr(),
+                store.len(),
+                kind,
+                privileged,
+                n,
+                a,
+                v,
+            )
+        };
+        *self = answered.left;
+        answered.code
+    }
+
+    /// `run` by the function that takes state and record by value.
+    #[inline]
+    pub fn run_by_value(
+        &mut self,
+        memory: &mut [u8],
+        store: &mut [u8],
+        calls: &[u32],
+        answers: &mut [u64],
+    ) -> usize {
+        let ran = unsafe {
+            sa110_run(
+                self.state.clone(),
+                self.cp15,
+                memory.as_mut_ptr(),
+                memory.len(),
+                store.as_mut_ptr(),
+                store.len(),
+                calls.as_ptr(),
+                calls.len(),
+                answers.as_mut_ptr(),
+                answers.len(),
+            )
+        };
+        *self = ran.left;
+        ran.made
+    }
+
+    pub fn lent(&self) -> Lent<'_> {
+        let state = &self.state;
+        Lent {
+            cp15: self.cp15,
+            counts: state.counts,
+            entries: &state.entries,
+            lines: &state.lines,
+            pointers: &state.pointers,
+            words: &state.words,
+            bytes: &state.bytes,
+            used: state.used,
+        }
+    }
+}
+
+/// What a state is lent as to `sound`. The lists may have any lengths.
+#[derive(Clone, Copy, Debug, PartialEq, Eq)]
+pub struct Lent<'a> {
+    pub cp15: Cp15,
+    pub counts: Counts,
+    pub entries: &'a [u64],
+    pub lines: &'a [u64],
+    pub pointers: &'a [u32],
+    pub words: &'a [u64],
+    pub bytes: &'a [[u8; BLOCK_BYTES]],
+    pub used: usize,
+}
+
+/// The soundness of a state for a memory of n bytes: 1 sound, 0 unsound, 2 where a list does not fit.
+#[inline]
+pub fn sound(lent: &Lent, n: usize) -> u32 {
+    unsafe {
+        sa110_sound(
+            lent.cp15,
+            lent.counts,
+            lent.entries.as_ptr(),
+            lent.entries.len(),
+            lent.lines.as_ptr(),
+            lent.lines.len(),
+            lent.pointers.as_ptr(),
+            lent.pointers.len(),
+            lent.words.as_ptr(),
+            lent.words.len(),
+            lent.bytes.as_ptr(),
+            lent.bytes.len(),
+            lent.used,
+            n,
+        )
+    }
+}
+
+/// The rights table's entry, or 255 behind its end.
+pub fn right(index: u32) -> u8 {
+    unsafe { sa110_right(index) }
+}
+
+/// A walk: the word of a TLB entry, which is odd, or twice the fault's domain × 16 + status.
+pub fn walk(memory: &[u8], base: u32, va: u32) -> u64 {
+    unsafe { sa110_walk(memory.as_ptr(), memory.len(), base, va) }
+}
+
+/// A run of the plain machine over five numbers a call.
+pub fn plain_run(memory: &mut [u8], calls: &[u32], answers: &mut [u64]) -> PlainRan {
+    unsafe {
+        sa110_plain_run(
+            memory.as_mut_ptr(),
+            memory.len(),
+            calls.as_ptr(),
+            calls.len(),
+            answers.as_mut_ptr(),
+            answers.len(),
+        )
+    }
+}

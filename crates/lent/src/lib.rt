@@ -1,0 +1,69 @@
+// Functions for C and Rust over a lent state and record, which a call changes in place.
+ghost use mathlib.Core.Path.{_≡_};
+ghost use Rattle.step.specs.Start.{started};
+ghost use Rattle.step.specs.Batch as batch;
+ghost use Rattle.sa110.specs.State.{machineIn, ranOf, startedOf};
+ghost use Rattle.host.specs.Coded as coded;
+use sa110::State;
+use values::Cp15;
+
+// The start: a fresh state and a record of zeros, or refusal 1 or 2 with a state all zeros.
+#[no_mangle]
+pub extern "C" fn sa110_start_lent(
+    state: &mut State,
+    cp15: &mut Cp15,
+    memory: &[u8],
+    store: &[u8],
+) -> u32
+    ensures { λ r.
+        ⌜ startedOf (now (memory .entry)) (now (store .entry)) (record { state = now (state .exit); cp15 = now (cp15 .exit); refusal = r })
+        ≡ started (now (memory .entry)) (now (store .entry)) ⌝ }
+{
+    let r = sa110::start(memory, store);
+    *state = r.state;
+    *cp15 = r.cp15;
+    r.refusal
+}
+
+// A call of five numbers.
+#[no_mangle]
+pub extern "C" fn sa110_call_lent(
+    state: &mut State,
+    cp15: &mut Cp15,
+    memory: &mut [u8],
+    store: &mut [u8],
+    kind: u32,
+    privileged: u32,
+    n: u32,
+    a: u32,
+    v: u32,
+) -> u64
+    ensures { λ r.
+        ⌜ coded.answeredOf (now (memory .exit)) (now (store .exit)) (record { state = now (state .exit); cp15 = now (cp15 .exit); code = r })
+        ≡ coded.calledBy (machineIn (now (memory .entry)) (now (store .entry)) (now (state .entry)) (now (cp15 .entry))) kind privileged n a v ⌝ }
+{
+    let r = host::sa110_call(*state, *cp15, memory, store, kind, privileged, n, a, v);
+    *state = r.state;
+    *cp15 = r.cp15;
+    r.code
+}
+
+// A run over a list of calls, five numbers each: how many calls were made.
+#[no_mangle]
+pub extern "C" fn sa110_run_lent(
+    state: &mut State,
+    cp15: &mut Cp15,
+    memory: &mut [u8],
+    store: &mut [u8],
+    calls: &[u32],
+    answers: &mut [u64],
+) -> usize
+    ensures { λ r.
+        ⌜ ranOf (now (memory .exit)) (now (store .exit)) (now (answers .exit)) (record { state = now (state .exit); cp15 = now (cp15 .exit); made = r })
+        ≡ batch.run (machineIn (now (memory .entry)) (now (store .entry)) (now (state .entry)) (now (cp15 .entry))) (now (calls .entry)) (now (answers .entry)) ⌝ }
+{
+    let r = sa110::run(*state, *cp15, memory, store, calls, answers);
+    *state = r.state;
+    *cp15 = r.cp15;
+    r.made
+}

@@ -1,0 +1,342 @@
+/* Damaged input from C: random and damaged states, wrong lengths, numbers that are no call, through the functions over a lent state and record.
+ * Each lent thing lies against a page that cannot be read or written, or in a block of its own from malloc for valgrind to watch, so that an
+ * access outside ends the program. Checked are: the answer is one of document 01's; a refused call changes nothing; a state that was sound stays
+ * so; the functions by value, and a run of the list, answer and leave the same. */
+#define _GNU_SOURCE
+#include "sa110.h"
+#include <stdio.h>
+#include <stdlib.h>
+#include <sys/mman.h>
+#include <unistd.h>
+
+#define MOST 24 /* calls of a list */
+
+static uint64_t seed;
+
+static uint64_t any(void) {
+    seed ^= seed << 13;
+    seed ^= seed >> 7;
+    seed ^= seed << 17;
+    return seed * 0x2545F4914F6CDD1Du >> 16;
+}
+static uint32_t below(uint32_t n) { return (uint32_t)(any() % n); }
+static int chance(uint32_t n) { return below(n) == 0; }
+static uint32_t word(void) { return (uint32_t)any(); }
+
+static _Noreturn void fail(const char *what) {
+    printf("damaged: %s\n", what);
+    exit(1);
+}
+
+/* A block to lend: its pages lie between two that cannot be touched, or it comes from malloc. */
+struct block {
+    uint8_t *at;
+    size_t length;
+    uint8_t *pages;
+    size_t pages_length;
+};
+
+static struct block lend(size_t length) {
+    struct block b = {NULL, length, NULL, 0};
+    size_t page = (size_t)sysconf(_SC_PAGESIZE), inside = (length + page - 1) / page * page;
+    uint32_t way = below(3);
+    if (way == 2 && length > 0) {
+        b.at = malloc(length);
+        if (b.at == NULL) {
+            fail("no memory left");
+        }
+        return b;
+    }
+    b.pages_length = inside + 2 * page;
+    b.pages = mmap(NULL, b.pages_length, PROT_NONE, MAP_PRIVATE | MAP_ANONYMOUS, -1, 0);
+    if (b.pages == MAP_FAILED || (inside > 0 && mprotect(b.pages + page, inside, PROT_READ | PROT_WRITE) != 0)) {
+        fail("no memory left");
+    }
+    b.at = b.pages + page + (way == 1 ? inside - length : 0);
+    return b;
+}
+
+static struct block copy_of(const struct block *b) {
+    struct block c = lend(b->length);
+    memcpy(c.at, b->at, b->length);
+    return c;
+}
+
+static void give_back(struct block *b) {
+    if (b->pages != NULL) {
+        munmap(b->pages, b->pages_length);
+    } else {
+        free(b->at);
+    }
+}
+
+/* A machine with what is lent to it, each in a block. */
+struct machine {
+    struct block state, cp15, memory, store;
+};
+
+static struct sa110_state *state(struct machine *m) { return (struct sa110_state *)m->state.at; }
+static struct sa110_cp15 *cp15(struct machine *m) { return (struct sa110_cp15 *)m->cp15.at; }
+
+static struct machine machine_of(const struct machine *m) {
+    struct machine c = {copy_of(&m->state), copy_of(&m->cp15), copy_of(&m->memory), copy_of(&m->store)};
+    return c;
+}
+
+static void drop(struct machine *m) {
+    give_back(&m->state);
+    give_back(&m->cp15);
+    give_back(&m->memory);
+    give_back(&m->store);
+}
+
+static int same_bytes(const struct block *a, const struct block *b) { return a->length == b->length && memcmp(a->at, b->at, a->length) == 0; }
+
+static int same(struct machine *a, struct machine *b) {
+    return sa110_same_state(state(a), state(b)) && same_bytes(&a->cp15, &b->cp15) && same_bytes(&a->memory, &b->memory) &&
+           same_bytes(&a->store, &b->store);
+}
+
+static uint32_t sound(struct machine *m) {
+    struct sa110_state *s = state(m);
+    return sa110_sound(*cp15(m), s->counts, s->entries, 32, s->lines, 512, s->pointers, 16, s->words, 8, s->slots, 8, s->used, m->memory.length);
+}
+
+/* A word of a page table, level 1 or 2, for a memory of some length. */
+static uint32_t descriptor(size_t length) {
+    uint32_t kind = chance(8) ? below(4) : 1 + below(2);
+    uint32_t base = chance(4) ? word() : length == 0 ? 0 : below((uint32_t)length);
+    if (chance(3)) {
+        base = below(4) << 20;
+    }
+    return (base & 0xFFFFF000u) | (word() & 0x0C0Cu) | (chance(2) ? 0xFF0u : word() & 0xFF0u) * chance(2) | below(3) << 5 | kind;
+}
+
+static size_t memory_length(void) {
+    static const size_t odd[] = {1, 31, 33, 4097, 65535, SA110_MEMORY_MAX + 32};
+    switch (below(16)) {
+    case 0:
+        return odd[chance(20) ? 5 : below(5)];
+    case 1:
+        return 32u * below(4);
+    default:
+        return 32u * below(2049);
+    }
+}
+
+static uint32_t address(void) { return chance(8) ? word() : below(5) << 20 | below(4) << 12 | below(chance(2) ? 256 : 4096); }
+
+/* Five numbers, mostly a call. */
+static void numbers(uint32_t *c) {
+    static const uint32_t pairs[] = {7, 6, 5, SA110_PAIR(1, 6), SA110_PAIR(1, 10), SA110_PAIR(4, 10)};
+    static const uint32_t controls[] = {0, 1, 9, 13, 15, 0x30D, 0x10D, 0x20F};
+    uint32_t kind = chance(200) ? 5 + word() % 9 : chance(3) ? 3 + below(2) : below(3);
+    c[0] = kind;
+    c[1] = chance(200) ? word() : !chance(6);
+    c[2] = kind < 3 ? (chance(30) ? word() % 9 : 1u << below(3)) : chance(20) ? word() % 20 : 1 + below(8);
+    c[3] = kind < 3 ? address() : chance(20) ? word() : pairs[below(6)];
+    c[4] = word();
+    if (kind == SA110_STORE && c[2] < 4 && !chance(20)) {
+        c[4] &= (1u << 8 * c[2]) - 1;
+    }
+    if (kind == SA110_WRITE && !chance(8)) {
+        c[4] = c[2] == 1 ? controls[below(8)] : c[2] == 2 ? 0x4000 * below(3) : c[2] == 3 ? (chance(2) ? 0x55555555 : word()) : address();
+    }
+}
+
+/* A machine after a start and a list of calls, or refused. */
+static struct machine some_machine(void) {
+    struct machine m;
+    uint32_t calls[64 * SA110_FIELDS];
+    uint64_t answers[64];
+    size_t i, n = memory_length();
+    m.state = lend(sizeof(struct sa110_state));
+    m.cp15 = lend(sizeof(struct sa110_cp15));
+    m.memory = lend(n);
+    m.store = lend(chance(20) ? below(2) * 16383 + 2 * below(2) : SA110_STORE_BYTES);
+    memset(m.state.at, 0xAA, m.state.length);
+    memset(m.cp15.at, 0xAA, m.cp15.length);
+    memset(m.memory.at, chance(2) ? 0 : 0x5A, n);
+    memset(m.store.at, 0x33, m.store.length);
+    for (i = 0; i + 4 <= n && n <= 65536; i += 4) {
+        uint32_t w = descriptor(n);
+        memcpy(m.memory.at + i, &w, 4);
+    }
+    uint32_t refusal = sa110_start_lent(state(&m), cp15(&m), m.memory.at, n, m.store.at, m.store.length);
+    uint32_t expected = n % 32 != 0 || n > SA110_MEMORY_MAX ? 1 : m.store.length != SA110_STORE_BYTES ? 2 : 0;
+    if (refusal != expected || state(&m)->size != (refusal ? 0 : n)) {
+        fail("a start answers something else");
+    }
+    for (i = 0; i < 64; i++) {
+        numbers(calls + i * SA110_FIELDS);
+    }
+    const uint32_t first[] = {4, 1, 2, 0, 0x4000 * below(2), 4, 1, 3, 0, 0x55555555, 4, 1, 1, 0, 13 + 2 * below(2)};
+    memcpy(calls, first, sizeof first);
+    sa110_run_lent(state(&m), cp15(&m), m.memory.at, n, m.store.at, m.store.length, calls, sizeof calls / sizeof *calls, answers, 3 + below(62));
+    return m;
+}
+
+static void damage(struct machine *m) {
+    struct sa110_state *s = state(m);
+    uint32_t i, times = 1 + below(4);
+    switch (below(14)) {
+    case 0: /* bits of the state */
+        for (i = 0; i < times; i++) {
+            m->state.at[below(sizeof *s)] ^= (uint8_t)(1u << below(8));
+        }
+        break;
+    case 1: /* words of TLB, lines or write buffer */
+        for (i = 0; i < times; i++) {
+            uint64_t w = any() << 32 ^ any();
+            memcpy(m->state.at + 40 + 8 * below((sizeof *s - 40) / 8), &w, 8);
+        }
+        break;
+    case 2: /* the record */
+        m->cp15.at[below(24)] ^= (uint8_t)(1u << below(8));
+        break;
+    case 3: /* all of it */
+        for (i = 0; i < sizeof *s; i++) {
+            m->state.at[i] = (uint8_t)any();
+        }
+        break;
+    case 4:
+        memset(m->state.at, chance(2) ? 0xFF : 0, sizeof *s);
+        memset(m->cp15.at, chance(2) ? 0xFF : 0, sizeof *cp15(m));
+        break;
+    case 5: /* the count's limit */
+        s->counts.calls = 0xFFFFFFFFu - below(3);
+        break;
+    case 6: /* another length at the start, a number of entries */
+        if (chance(2)) {
+            s->size = chance(2) ? s->size + 32 : (size_t)any() << 20;
+        } else {
+            s->used = chance(2) ? below(12) : (size_t)any() << 20;
+        }
+        break;
+    default: /* none */
+        break;
+    }
+}
+
+static uint64_t served, faults[16], refused[13], none;
+
+/* Notes an answer; gives whether the call changes nothing. */
+static int note(uint64_t answer, const uint32_t *c) {
+    uint32_t value = sa110_value(answer);
+    switch (sa110_kind(answer)) {
+    case SA110_SERVED:
+        served++;
+        return 0;
+    case SA110_FAULT:
+        if (value > 255 || sa110_status(answer) == 0 || sa110_status(answer) == 2 || sa110_status(answer) == 3) {
+            fail("a fault of no known status");
+        }
+        faults[sa110_status(answer)]++;
+        return 0;
+    case SA110_REFUSED:
+        if (value < 1 || value > 12) {
+            fail("a refusal of no known number");
+        }
+        refused[value]++;
+        return 1;
+    default:
+        if (answer != (uint64_t)SA110_NO_CALL << 32 || (c[0] <= 4 && c[1] <= 1)) {
+            fail("an answer of no known kind");
+        }
+        none++;
+        return 1;
+    }
+}
+
+static void one_case(void) {
+    struct machine m = some_machine(), r, before;
+    struct block calls, answers;
+    uint64_t codes[MOST];
+    size_t i, n = below(MOST + 1), stop = n;
+    damage(&m);
+    r = machine_of(&m);
+    calls = lend((n * SA110_FIELDS + below(5)) * 4);
+    memset(calls.at, 0, calls.length);
+    for (i = 0; i < n; i++) {
+        uint32_t *c = (uint32_t *)calls.at + i * SA110_FIELDS;
+        uint32_t was_sound = sound(&m);
+        numbers(c);
+        before = machine_of(&m);
+        struct machine other = machine_of(&m);
+        struct sa110_answered by_value = sa110_call(*state(&other), *cp15(&other), other.memory.at, other.memory.length, other.store.at,
+                                                    other.store.length, c[0], c[1], c[2], c[3], c[4]);
+        *state(&other) = by_value.state;
+        *cp15(&other) = by_value.cp15;
+        codes[i] = sa110_call_lent(state(&m), cp15(&m), m.memory.at, m.memory.length, m.store.at, m.store.length, c[0], c[1], c[2], c[3], c[4]);
+        if (codes[i] != by_value.code || !same(&m, &other)) {
+            fail("a call by value differs");
+        }
+        if (note(codes[i], c)) {
+            if (!same(&m, &before)) {
+                fail("a refused call changes something");
+            }
+        } else if (!was_sound || !sound(&m)) {
+            fail("a call that is not refused had or leaves an unsound state");
+        }
+        drop(&before);
+        drop(&other);
+        if (sa110_kind(codes[i]) == SA110_NO_CALL) {
+            stop = i;
+            break;
+        }
+    }
+    answers = lend((stop + below(3)) * 8);
+    memset(answers.at, 0x77, answers.length);
+    size_t made = sa110_run_lent(state(&r), cp15(&r), r.memory.at, r.memory.length, r.store.at, r.store.length, (uint32_t *)calls.at,
+                                 calls.length / 4, (uint64_t *)answers.at, answers.length / 8);
+    if (made != stop || memcmp(answers.at, codes, stop * 8) != 0 || !same(&r, &m)) {
+        fail("a run differs from its calls");
+    }
+    for (i = stop * 8; i < answers.length; i++) {
+        if (answers.at[i] != 0x77) {
+            fail("a run writes behind its answers");
+        }
+    }
+    give_back(&calls);
+    give_back(&answers);
+    drop(&m);
+    drop(&r);
+}
+
+int main(int argc, char **argv) {
+    uint64_t cases = 0, i;
+    char *end = NULL;
+    uint32_t missing = 0;
+    if (argc == 3) {
+        seed = strtoull(argv[1], &end, 10);
+        if (*argv[1] != 0 && *end == 0) {
+            cases = strtoull(argv[2], &end, 10);
+        }
+    }
+    if (argc != 3 || *end != 0 || seed == 0 || cases == 0) {
+        fprintf(stderr, "usage: %s SEED CASES\nLends damaged input to the library CASES times; both are positive decimal numbers.\n", argv[0]);
+        return 2;
+    }
+    for (i = 0; i < cases; i++) {
+        one_case();
+    }
+    printf("cases %llu, served %llu, no call %llu\nrefused by 1 to 12:", (unsigned long long)cases, (unsigned long long)served,
+           (unsigned long long)none);
+    for (i = 1; i <= 12; i++) {
+        printf(" %llu", (unsigned long long)refused[i]);
+        missing += refused[i] == 0;
+    }
+    printf("\nfaults by status 1, 4 to 15:");
+    for (i = 1; i <= 15; i++) {
+        if (i != 2 && i != 3) {
+            printf(" %llu", (unsigned long long)faults[i]);
+            missing += faults[i] == 0;
+        }
+    }
+    printf("\n");
+    if (missing > 0 && cases >= 2000) {
+        fail("not every refusal and status was met");
+    }
+    printf("damaged: ok\n");
+    return 0;
+}

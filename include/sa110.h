@@ -1,0 +1,325 @@
+/* The SA-110 data side for C and C++: coprocessor 15, data TLB, page walk, Dcache and write buffer, over memory that the caller lends.
+ *
+ * The authority on every meaning is document 01 ("The SA-110 data side"). The functions are proved to meet its definitions; what this header says
+ * in prose is a summary. The proofs speak of the language's abstract machine: they do not cover the compiler's back end, this header, or callers.
+ *
+ * Link with target/staticlib/liblent.a and target/staticlib/libhost.a (`rt staticlib lent`, `rt staticlib host`). The library needs memcpy and
+ * memset, allocates nothing, keeps nothing between calls, prints nothing and never aborts: every error is an answer. Different states may be used
+ * on different threads at the same time; a call takes up to 32 KB of stack (measured 28 KB, a run 20 KB).
+ *
+ * A slice is a pointer and a length in elements. A pointer must be aligned for its type, must not be null even where the length is 0, and must
+ * point to that many elements. What a call may change must not overlap anything else that is lent to that call. These are the only demands: any
+ * contents and any lengths are allowed and get an answer.
+ *
+ * Machine: x86-64, System V calling convention (Linux). Words in memory are little-endian. */
+#ifndef SA110_H
+#define SA110_H
+
+#include <stddef.h>
+#include <stdint.h>
+#include <string.h>
+
+#ifdef __cplusplus
+#define SA110_STATIC_ASSERT(condition, text) static_assert(condition, text)
+extern "C" {
+#else
+#define SA110_STATIC_ASSERT(condition, text) _Static_assert(condition, text)
+#endif
+
+/* ---- Sizes ---- */
+
+#define SA110_MEMORY_MAX 16777216u /* the longest memory, in bytes; a length is a multiple of SA110_LINE_BYTES, and may be 0 */
+#define SA110_STORE_BYTES 16384u   /* the cache store's length */
+#define SA110_LINE_BYTES 32u       /* a Dcache line */
+#define SA110_BLOCK_BYTES 16u      /* a half of a line, and a write buffer entry */
+#define SA110_TLB_ENTRIES 32u
+#define SA110_SETS 16u
+#define SA110_WAYS 32u
+#define SA110_LINES 512u           /* line i of `lines` is way i % 32 of set i / 32; its bytes lie at 32 i of the cache store */
+#define SA110_BUFFER_ENTRIES 8u
+#define SA110_RIGHTS 256u          /* entries of the rights table */
+#define SA110_FIELDS 5u            /* numbers a call */
+
+/* ---- Structs ---- */
+
+/* The plain five registers. */
+struct sa110_registers {
+    uint32_t control; /* register 1: bits 0 M, 1 A, 2 C, 3 W, 8 S, 9 R, 12 I; a read adds SA110_CONTROL_ONES */
+    uint32_t base;    /* register 2: the table base, bits 31 to 14 */
+    uint32_t domains; /* register 3: sixteen two-bit domain values */
+    uint32_t fsr;     /* register 5: domain * 16 + status of the last fault */
+    uint32_t far;     /* register 6: the address of the last fault, as the call gave it */
+};
+
+/* The small record: the plain five registers and the TLB pointer. */
+struct sa110_cp15 {
+    struct sa110_registers registers;
+    uint32_t pointer; /* the TLB entry that the next walk fills, 0 to 31 */
+};
+
+/* The five counts. */
+struct sa110_counts {
+    uint32_t calls;  /* accepted accesses and CP15 calls */
+    uint32_t misses; /* TLB misses, those whose walk faults too */
+    uint32_t hits;   /* Dcache hits */
+    uint32_t fills;  /* line fills */
+    uint32_t halves; /* halves of lines sent out to the write buffer */
+};
+
+/* The sixteen bytes of a place of the write buffer; those outside the entry's mask are zero. */
+struct sa110_slot_bytes {
+    uint8_t bytes[16];
+};
+
+/* The state. Places behind the entries in use, and entries and lines that are not valid, are all zeros. */
+struct sa110_state {
+    size_t size;                       /* the memory's length at the start */
+    struct sa110_counts counts;
+    size_t used;                       /* the number of write buffer entries, oldest first */
+    uint64_t entries[32];              /* TLB: bit 0 valid, 1 C, 2 B, 3-7 size (0 section, 1 large, 2 small), 8-15 domain, 16-23 AP0 to AP3,
+                                          24-43 physical base / 4096, 44-63 virtual base / 4096 */
+    uint64_t lines[512];               /* Dcache: bit 0 valid, 1 low half dirty, 2 high half dirty, 3-31 physical line number, 32-63 tag */
+    uint32_t pointers[16];             /* the line of each set that the next fill replaces, 0 to 31 */
+    uint64_t words[8];                 /* write buffer: bits 0-31 mask (16 bits used), 32-63 block number (physical address / 16) */
+    struct sa110_slot_bytes slots[8];  /* write buffer: the bytes */
+};
+
+/* What a start by value leaves. */
+struct sa110_started {
+    struct sa110_state state;
+    struct sa110_cp15 cp15;
+    uint32_t refusal; /* 0, 1 or 2 */
+};
+
+/* What a call by value leaves. */
+struct sa110_answered {
+    struct sa110_state state;
+    struct sa110_cp15 cp15;
+    uint64_t code; /* the answer */
+};
+
+/* What a run by value leaves. */
+struct sa110_ran {
+    struct sa110_state state;
+    struct sa110_cp15 cp15;
+    size_t made; /* calls made */
+};
+
+/* What a run of the plain machine leaves beside memory and answers. */
+struct sa110_plain_ran {
+    uint32_t control;
+    uint32_t base;
+    uint32_t domains;
+    uint32_t fsr;
+    uint32_t far;
+    uint32_t calls;   /* calls that were not refused */
+    uint32_t refusal; /* 1 if the memory's length does not fit, and then nothing has changed; else 0 */
+    size_t made;      /* calls made */
+};
+
+SA110_STATIC_ASSERT(sizeof(size_t) == 8 && sizeof(void *) == 8, "the library is built for 64 bits");
+SA110_STATIC_ASSERT(sizeof(struct sa110_registers) == 20, "registers");
+SA110_STATIC_ASSERT(offsetof(struct sa110_registers, far) == 16, "registers.far");
+SA110_STATIC_ASSERT(sizeof(struct sa110_cp15) == 24, "cp15");
+SA110_STATIC_ASSERT(offsetof(struct sa110_cp15, pointer) == 20, "cp15.pointer");
+SA110_STATIC_ASSERT(sizeof(struct sa110_counts) == 20, "counts");
+SA110_STATIC_ASSERT(offsetof(struct sa110_counts, halves) == 16, "counts.halves");
+SA110_STATIC_ASSERT(sizeof(struct sa110_slot_bytes) == 16, "slot_bytes");
+SA110_STATIC_ASSERT(sizeof(struct sa110_state) == 4648, "state");
+SA110_STATIC_ASSERT(offsetof(struct sa110_state, size) == 0, "state.size");
+SA110_STATIC_ASSERT(offsetof(struct sa110_state, counts) == 8, "state.counts");
+SA110_STATIC_ASSERT(offsetof(struct sa110_state, used) == 32, "state.used");
+SA110_STATIC_ASSERT(offsetof(struct sa110_state, entries) == 40, "state.entries");
+SA110_STATIC_ASSERT(offsetof(struct sa110_state, lines) == 296, "state.lines");
+SA110_STATIC_ASSERT(offsetof(struct sa110_state, pointers) == 4392, "state.pointers");
+SA110_STATIC_ASSERT(offsetof(struct sa110_state, words) == 4456, "state.words");
+SA110_STATIC_ASSERT(offsetof(struct sa110_state, slots) == 4520, "state.slots");
+SA110_STATIC_ASSERT(sizeof(struct sa110_started) == 4680, "started");
+SA110_STATIC_ASSERT(offsetof(struct sa110_started, cp15) == 4648, "started.cp15");
+SA110_STATIC_ASSERT(offsetof(struct sa110_started, refusal) == 4672, "started.refusal");
+SA110_STATIC_ASSERT(sizeof(struct sa110_answered) == 4680, "answered");
+SA110_STATIC_ASSERT(offsetof(struct sa110_answered, code) == 4672, "answered.code");
+SA110_STATIC_ASSERT(sizeof(struct sa110_ran) == 4680, "ran");
+SA110_STATIC_ASSERT(offsetof(struct sa110_ran, made) == 4672, "ran.made");
+SA110_STATIC_ASSERT(sizeof(struct sa110_plain_ran) == 40, "plain_ran");
+SA110_STATIC_ASSERT(offsetof(struct sa110_plain_ran, refusal) == 24, "plain_ran.refusal");
+SA110_STATIC_ASSERT(offsetof(struct sa110_plain_ran, made) == 32, "plain_ran.made");
+
+/* Whether two states are the same. The four bytes between counts and used belong to no field and may hold anything, so memcmp of whole states
+ * does not tell. */
+static inline int sa110_same_state(const struct sa110_state *a, const struct sa110_state *b) {
+    return a->size == b->size && memcmp(&a->counts, &b->counts, sizeof a->counts) == 0 && a->used == b->used &&
+           memcmp((const char *)a + offsetof(struct sa110_state, entries), (const char *)b + offsetof(struct sa110_state, entries),
+                  sizeof *a - offsetof(struct sa110_state, entries)) == 0;
+}
+
+/* ---- Calls ---- */
+
+/* A call is five numbers: kind, privileged (1 or 0), n, a, v.
+ *
+ *                       n                 a                                  v
+ *   loads               width 1, 2, 4     virtual address                    ignored
+ *   store               width 1, 2, 4     virtual address                    the value
+ *   CP15 read           register 0 to 6   ignored                            ignored
+ *   CP15 write          register 1 to 8   SA110_PAIR(opcode 2, CRm),         the value; for line and entry
+ *                                         heeded for registers 7 and 8       operations the virtual address */
+enum {
+    SA110_LOAD = 0,
+    SA110_SIGNED_LOAD = 1,
+    SA110_STORE = 2,
+    SA110_READ = 3,
+    SA110_WRITE = 4
+};
+
+#define SA110_PAIR(opcode2, crm) ((opcode2) * 16u + (crm))
+
+/* Registers. */
+enum {
+    SA110_ID = 0,        /* reads SA110_ID_VALUE */
+    SA110_CONTROL = 1,
+    SA110_BASE = 2,
+    SA110_DOMAINS = 3,
+    SA110_RESERVED = 4,  /* reads 0 and ignores writes */
+    SA110_FSR = 5,
+    SA110_FAR = 6,
+    SA110_CACHE = 7,     /* write only, with a pair */
+    SA110_TLB = 8        /* write only, with a pair */
+};
+#define SA110_ID_VALUE 0x4401A100u
+
+/* Control bits. Of M, C and W these combinations are valid: none; M; M and W; all three. */
+#define SA110_M 0x0001u            /* MMU */
+#define SA110_A 0x0002u            /* alignment is checked */
+#define SA110_C 0x0004u            /* Dcache */
+#define SA110_W 0x0008u            /* write buffer */
+#define SA110_S 0x0100u
+#define SA110_R 0x0200u
+#define SA110_I 0x1000u            /* kept, without effect here */
+#define SA110_CONTROL_ONES 0x0070u /* bits 4 to 6 read as one */
+
+/* Operations of register 7. A flush loses dirty bytes. */
+#define SA110_CACHE_FLUSH SA110_PAIR(0u, 6u)      /* flushes the Dcache; so does SA110_PAIR(0, 7); SA110_PAIR(0, 5) does nothing */
+#define SA110_CACHE_FLUSH_LINE SA110_PAIR(1u, 6u) /* flushes the line of the virtual address written */
+#define SA110_CACHE_CLEAN_LINE SA110_PAIR(1u, 10u) /* sends its dirty halves to the write buffer; the line stays valid */
+#define SA110_BUFFER_DRAIN SA110_PAIR(4u, 10u)    /* writes the write buffer to memory */
+
+/* Operations of register 8. */
+#define SA110_TLB_FLUSH SA110_PAIR(0u, 6u)        /* flushes the TLB; so does SA110_PAIR(0, 7); SA110_PAIR(0, 5) does nothing */
+#define SA110_TLB_FLUSH_ENTRY SA110_PAIR(1u, 6u)  /* drops every entry that covers the virtual address written */
+
+/* ---- Answers ---- */
+
+/* An answer is kind * 2^32 + value.
+ *
+ *   kind                    value
+ *   SA110_SERVED            the value loaded or read, a signed one as its 32 bits; 0 for a store and a CP15 write
+ *   SA110_FAULT             FSR: domain * 16 + status. The fault's address is the call's
+ *   SA110_REFUSED           the refusal's number, 1 to 12; the call has changed nothing
+ *   SA110_NO_CALL           0: the five numbers are no call (kind above 4 or privileged above 1); nothing has changed */
+enum {
+    SA110_SERVED = 0,
+    SA110_FAULT = 1,
+    SA110_REFUSED = 2,
+    SA110_NO_CALL = 3
+};
+
+static inline uint32_t sa110_kind(uint64_t answer) { return (uint32_t)(answer >> 32); }
+static inline uint32_t sa110_value(uint64_t answer) { return (uint32_t)answer; }
+static inline uint32_t sa110_status(uint64_t answer) { return (uint32_t)answer % 16u; }
+static inline uint32_t sa110_domain(uint64_t answer) { return (uint32_t)answer / 16u % 16u; }
+
+/* Fault statuses, in the order in which they are tested. The second of each pair is for pages; flat addresses count as sections. The domain is 0
+ * for SA110_ALIGNMENT, SA110_WALK_FIRST, SA110_TRANSLATION_SECTION and flat addresses. */
+enum {
+    SA110_ALIGNMENT = 1,            /* A is set: a word not at a multiple of 4, or a halfword at an odd address */
+    SA110_WALK_FIRST = 12,          /* the level 1 word lies outside memory */
+    SA110_WALK_SECOND = 14,         /* the level 2 word lies outside memory */
+    SA110_TRANSLATION_SECTION = 5,  /* the level 1 word is no mapping */
+    SA110_TRANSLATION_PAGE = 7,     /* the level 2 word is no mapping */
+    SA110_DOMAIN_SECTION = 9,       /* the domain's value is 0 or 2 */
+    SA110_DOMAIN_PAGE = 11,
+    SA110_PERMISSION_SECTION = 13,  /* AP, S, R and mode do not allow it */
+    SA110_PERMISSION_PAGE = 15,
+    SA110_FILL_SECTION = 4,         /* outside memory, on a line fill */
+    SA110_FILL_PAGE = 6,
+    SA110_OTHER_SECTION = 8,        /* outside memory, otherwise */
+    SA110_OTHER_PAGE = 10
+};
+
+/* Refusals, in the order in which they are tested. A start meets 1 and 2; an access 1 to 7; a CP15 call 1 to 5 and 8 to 12. */
+enum {
+    SA110_REFUSED_MEMORY = 1,      /* the memory's length is not a multiple of 32 or exceeds 16,777,216 */
+    SA110_REFUSED_STORE = 2,       /* the cache store is not 16,384 bytes */
+    SA110_REFUSED_STATE = 3,       /* the state is unsound: not one that calls leave (document 01 has the list) */
+    SA110_REFUSED_LENGTH = 4,      /* the memory's length differs from the one at the start */
+    SA110_REFUSED_COUNT = 5,       /* the count of calls stands at 4,294,967,295 */
+    SA110_REFUSED_WIDTH = 6,       /* the width is not 1, 2 or 4 */
+    SA110_REFUSED_VALUE = 7,       /* the value to store does not fit the width */
+    SA110_REFUSED_USER = 8,        /* a CP15 call in user mode */
+    SA110_REFUSED_REGISTER = 9,    /* the register cannot be read (other than 0 to 6) or written (other than 1 to 8) */
+    SA110_REFUSED_OPERATION = 10,  /* the pair for register 7 or 8 is not listed */
+    SA110_REFUSED_BIG_ENDIAN = 11, /* a control write sets bit 7 */
+    SA110_REFUSED_CONTROL = 12     /* a control write gives a combination of M, C and W that is not valid */
+};
+
+/* ---- Functions over a lent state and record ---- */
+
+/* Starts: writes a fresh state (the memory's length, all else zero) and a record of zeros, and gives 0. Refused, it gives 1 or 2 and writes a state
+ * and a record of zeros. What was in them before does not matter. Memory and cache store may hold any bytes, and stay as they are. */
+uint32_t sa110_start_lent(struct sa110_state *state, struct sa110_cp15 *cp15, const uint8_t *memory, size_t memory_length, const uint8_t *store,
+                          size_t store_length);
+
+/* Makes one call of five numbers and gives its answer. A served call and a fault change state, record, memory and cache store as document 01
+ * says; a refused call, and numbers that are no call, change nothing. Each call tests the whole state for refusal 3, which takes a microsecond or
+ * two; a run tests it once. */
+uint64_t sa110_call_lent(struct sa110_state *state, struct sa110_cp15 *cp15, uint8_t *memory, size_t memory_length, uint8_t *store,
+                         size_t store_length, uint32_t kind, uint32_t privileged, uint32_t n, uint32_t a, uint32_t v);
+
+/* Makes a list of calls, five numbers each, and gives how many it made: as many as both lists hold (calls_length / 5, answers_length), up to five
+ * numbers that are no call, where it stops. The answer to call i stands in answers[i]; those behind the calls made are as they were. Everything
+ * is as after sa110_call_lent for each call in turn: refused calls are made and answered, too. Lengths count elements, not bytes. */
+size_t sa110_run_lent(struct sa110_state *state, struct sa110_cp15 *cp15, uint8_t *memory, size_t memory_length, uint8_t *store,
+                      size_t store_length, const uint32_t *calls, size_t calls_length, uint64_t *answers, size_t answers_length);
+
+/* ---- The plain machine ---- */
+
+/* Makes a list of calls, in the form of sa110_run_lent, on the plain machine: memory and the five registers, all zero at the start, without TLB,
+ * Dcache and write buffer. Stores are in memory at once; writes of registers 7 and 8 do nothing. For a list that keeps document 01's rules R1 to
+ * R6 the answers are those of sa110_run_lent from a start, and after a clean of each line stored to and a drain so is memory, byte for byte: this
+ * is proved (term 3). A memory whose length does not fit gives refusal 1, with no call made. */
+struct sa110_plain_ran sa110_plain_run(uint8_t *memory, size_t memory_length, const uint32_t *calls, size_t calls_length, uint64_t *answers,
+                                       size_t answers_length);
+
+/* ---- Parts ---- */
+
+/* Tests the parts of a state for a memory of n bytes, as refusal 3 does: 1 sound, 0 unsound, 2 where a list does not have its length (entries 32,
+ * lines 512, pointers 16, words 8, slots 8). The parts are those of sa110_state. */
+uint32_t sa110_sound(struct sa110_cp15 cp15, struct sa110_counts counts, const uint64_t *entries, size_t entries_length, const uint64_t *lines,
+                     size_t lines_length, const uint32_t *pointers, size_t pointers_length, const uint64_t *words, size_t words_length,
+                     const struct sa110_slot_bytes *slots, size_t slots_length, size_t used, size_t n);
+
+/* Walks the page tables in a memory of any length for a virtual address, by the table base's bits 31 to 14. An odd result is the mapping found,
+ * in the form of sa110_state.entries; an even one is twice the fault's domain * 16 + status. Rights are not checked, and nothing changes. */
+uint64_t sa110_walk(const uint8_t *memory, size_t memory_length, uint32_t base, uint32_t va);
+
+/* Gives an entry of the rights table: 0 allowed, 1 domain fault, 2 permission fault; 255 for an index above 255. The index is
+ * domain value * 64 + AP * 16 + S * 8 + R * 4 + privileged * 2 + store. */
+uint8_t sa110_right(uint32_t index);
+
+/* ---- The same functions by value ---- */
+
+/* As sa110_start_lent, with state and record in the result. */
+struct sa110_started sa110_start(const uint8_t *memory, size_t memory_length, const uint8_t *store, size_t store_length);
+
+/* As sa110_call_lent: state and record go in by value and come back in the result. */
+struct sa110_answered sa110_call(struct sa110_state state, struct sa110_cp15 cp15, uint8_t *memory, size_t memory_length, uint8_t *store,
+                                 size_t store_length, uint32_t kind, uint32_t privileged, uint32_t n, uint32_t a, uint32_t v);
+
+/* As sa110_run_lent: state and record go in by value and come back in the result. */
+struct sa110_ran sa110_run(struct sa110_state state, struct sa110_cp15 cp15, uint8_t *memory, size_t memory_length, uint8_t *store,
+                           size_t store_length, const uint32_t *calls, size_t calls_length, uint64_t *answers, size_t answers_length);
+
+#ifdef __cplusplus
+}
+#endif
+#endif
