@@ -33,6 +33,25 @@ pub fn descriptor_at(memory: &[u8], at: PhysicalAddress) -> Descriptor
     }
 }
 
+// The reader over the lent memory: it holds the memory's slice.
+pub struct Bus<'a> {
+    pub memory: &'a [u8],
+}
+
+// The descriptor word at a physical address, of a reader.
+pub fn bus_descriptor<'a>(bus: Bus<'a>, at: PhysicalAddress) -> Descriptor
+    ensures { λ r. ⌜ r ≡ descriptorAt (now (bus .entry .memory)) at ⌝ }
+{
+    descriptor_at(bus.memory, at)
+}
+
+// The descriptor word at a physical address, through a reader over the slice: what the walk calls.
+pub fn descriptor_of(memory: &[u8], at: PhysicalAddress) -> Descriptor
+    ensures { λ d. ⌜ d ≡ descriptorAt (now (memory .entry)) at ⌝ }
+{
+    bus_descriptor(Bus { memory }, at)
+}
+
 // The level 2 word: a large page, a small page, or a fault.
 fn level_two(domain: u32, va: VirtualAddress, w: u32) -> Mapping
     requires { ⌜ domain < 16 ⌝ }
@@ -72,7 +91,7 @@ fn second_level(memory: &[u8], va: VirtualAddress, w: u32) -> Mapping
 {
     let domain = w / 32 % 16;
     let at = PhysicalAddress(w / 1024 * 1024 + 4 * (va.0 / 4096 % 256));
-    let d = descriptor_at(memory, at);
+    let d = descriptor_of(memory, at);
     match d {
         Descriptor::Word(v) => level_two(domain, va, v),
         Descriptor::Outside => Mapping::Failed(Status::WalkSecond, domain),
@@ -108,7 +127,7 @@ pub fn walk(memory: &[u8], base: u32, va: VirtualAddress) -> Mapping
     ensures { λ r. ⌜ Is r (walks.walk (now (memory .entry)) base va) ⌝ }
 {
     let at = PhysicalAddress(base + 4 * (va.0 / 1048576));
-    let d = descriptor_at(memory, at);
+    let d = descriptor_of(memory, at);
     match d {
         Descriptor::Word(w) => level_one(memory, va, w),
         Descriptor::Outside => Mapping::Failed(Status::WalkFirst, 0),

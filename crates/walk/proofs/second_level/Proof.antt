@@ -4,7 +4,7 @@ use Rattle.walk.proofs.second_level.Statement.{statement}
 use Rattle.walk.proofs.second_level.Tie as tie
 use Rattle.walk.proofs.second_level.Reads as reads
 use Rattle.walk.proofs.second_level.Lts as lts
-use Rattle.walk.proofs.descriptor_at.Reads as descriptor-at-reads
+use Rattle.walk.proofs.descriptor_of.Reads as descriptor-of-reads
 use Rattle.walk.proofs.level_two.Reads as level-two-reads
 
 -- src/lib.rt:72:30
@@ -20,8 +20,8 @@ add-t13 : tie.Need-add-t13
 add-t13 c = search needs
 
 -- src/lib.rt:73:9
-descriptor-at-requires : tie.Need-descriptor-at-requires
-descriptor-at-requires c κs = search needs
+descriptor-of-requires : tie.Need-descriptor-of-requires
+descriptor-of-requires c κs = search needs
 
 -- src/lib.rt:75:26
 enum-known-d : tie.Need-enum-known-d
@@ -37,12 +37,12 @@ enum-told c = search needs
 
 -- src/lib.rt:68:1
 returns : tie.Need-returns
-returns c = rw (← c .before .before .before .before .descriptor-at .ensures, c .before .before .d .given .1) (c .level-two .ensures)
+returns c = rw (← c .before .before .before .before .descriptor-of .ensures, c .before .before .d .given .1) (c .level-two .ensures)
 
 -- src/lib.rt:68:1
 returns-2 : tie.Need-returns-2
 unfolding second
-returns-2 c = record { same = rw (← c .before .before .descriptor-at .ensures, c .enum-told .given .1); ranged = search needs }
+returns-2 c = record { same = rw (← c .before .before .descriptor-of .ensures, c .enum-told .given .1); ranged = search needs }
 
 pub second-level-spec : {M : Type 1} → statement M
 second-level-spec =
@@ -51,7 +51,7 @@ second-level-spec =
     mul-t9
     mul-t12
     add-t13
-    descriptor-at-requires
+    descriptor-of-requires
     enum-known-d
     level-two-requires
     enum-told

@@ -6,7 +6,7 @@ use Rattle.walk.proofs.walk.Statement.{statement}
 use Rattle.walk.proofs.walk.Tie as tie
 use Rattle.walk.proofs.walk.Reads as reads
 use Rattle.walk.proofs.walk.Lts as lts
-use Rattle.walk.proofs.descriptor_at.Reads as descriptor-at-reads
+use Rattle.walk.proofs.descriptor_of.Reads as descriptor-of-reads
 use Rattle.walk.proofs.level_one.Reads as level-one-reads
 
 -- src/lib.rt:108:37
@@ -18,8 +18,8 @@ add-t9 : tie.Need-add-t9
 add-t9 c = search needs
 
 -- src/lib.rt:109:9
-descriptor-at-requires : tie.Need-descriptor-at-requires
-descriptor-at-requires c κs = search needs
+descriptor-of-requires : tie.Need-descriptor-of-requires
+descriptor-of-requires c κs = search needs
 
 -- src/lib.rt:111:26
 enum-known-d : tie.Need-enum-known-d
@@ -35,12 +35,12 @@ enum-told c = search needs
 
 -- src/lib.rt:104:1
 returns : tie.Need-returns
-returns c = rw (walk-by _ _ (c .before .before .before .before .before .before .before .args .va) _ (sym (c .before .before .before .before .descriptor-at .ensures) ∙ c .before .before .d .given .1)) (c .level-one .ensures)
+returns c = rw (walk-by _ _ (c .before .before .before .before .before .before .before .args .va) _ (sym (c .before .before .before .before .descriptor-of .ensures) ∙ c .before .before .d .given .1)) (c .level-one .ensures)
 
 -- src/lib.rt:104:1
 returns-2 : tie.Need-returns-2
 unfolding first
-returns-2 c = record { same = sym (walk-by _ _ (c .before .before .before .before .before .args .va) _ (sym (c .before .before .descriptor-at .ensures) ∙ c .enum-told .given .1)); ranged = search needs }
+returns-2 c = record { same = sym (walk-by _ _ (c .before .before .before .before .before .args .va) _ (sym (c .before .before .descriptor-of .ensures) ∙ c .enum-told .given .1)); ranged = search needs }
 
 pub walk-spec : {M : Type 1} → statement M
 walk-spec =
@@ -48,7 +48,7 @@ walk-spec =
     (tie.spec
     mul-t8
     add-t9
-    descriptor-at-requires
+    descriptor-of-requires
     enum-known-d
     level-one-requires
     enum-told

@@ -1,4 +1,4 @@
--- `bus::bus_descriptor` meets its contract: a walk of its MIR, by hand. The reader is taken apart, and `descriptor_at` is called on the slice and the
+-- `walk::bus_descriptor` meets its contract: a walk of its MIR, by hand. The reader is taken apart, and `descriptor_at` is called on the slice and the
 -- address. All that is known of `descriptor_at` is that it meets its contract.
 -- Assumes nothing.
 use mathlib.Core.Path.{_≡_, refl}
@@ -40,24 +40,24 @@ use denote.Triple.Table.{entered, cited}
 use denote.Triple.Walked.{says, Stays, stay-dropped, walkOf, goes-dropped, Walks, ends-at, walked, walk-meets}
 use denote.Exit.{yes}
 use denote.Triple.Clauses.{ensured, lasts}
 use Rattle.walk.specs.Walk.{descriptorAt}
-use Rattle.bus.specs.declared.Bus.{Bus}
+use Rattle.walk.specs.declared.Bus.{Bus}
 use Rattle.values.specs.declared.PhysicalAddress.{PhysicalAddress}
 use Rattle.walk.specs.declared.Descriptor.{Descriptor}
-use Rattle.bus.proofs.Bus as T
-use Rattle.bus.proofs.Bus.Laws as T′
+use Rattle.walk.proofs.Bus as T
+use Rattle.walk.proofs.Bus.Laws as T′
 use Rattle.values.proofs.PhysicalAddress as P
 use Rattle.values.proofs.PhysicalAddress.Laws as P′
 use Rattle.walk.proofs.Descriptor as S
 use Rattle.walk.proofs.Descriptor.Laws as S′
 use Rattle.walk.proofs.descriptor_at as g
 use Rattle.walk.proofs.descriptor_at.Symbol as g-def
 use Rattle.walk.proofs.descriptor_at.Symbol.{name as #walk·descriptor-at}
 use Rattle.walk.proofs.descriptor_at.Met as g-thm
-use Rattle.bus.proofs.bus_descriptor.Key.{name as #bus·bus-descriptor}
-use Rattle.bus.proofs.bus_descriptor as f
-use Rattle.bus.proofs.bus_descriptor.Statement as stated
-use Rattle.bus.proofs.bus_descriptor.Code as code
+use Rattle.walk.proofs.bus_descriptor.Key.{name as #walk·bus-descriptor}
+use Rattle.walk.proofs.bus_descriptor as f
+use Rattle.walk.proofs.bus_descriptor.Statement as stated
+use Rattle.walk.proofs.bus_descriptor.Code as code
 
 -- the reader's type, over the signature's lifetimes
 abbrev B : Lfts 1 → RattleType
@@ -164,6 +164,6 @@ pub bus-descriptor-spec : {M : Type 1} → stated.statement M
 unfolding code.routine tablesOf
 bus-descriptor-spec 𝓤 H 𝓜 𝓖 𝓡 =
     entered 𝓤 H (tripleOf 𝓤 H (𝓖 .A) f.signature (f.spec 𝓤 H (𝓖 .A) (𝓜 .mem) (𝓡 .run)))
-    (tables 𝓤 H 𝓜 𝓡 code.env .C) (tables 𝓤 H 𝓜 𝓡 code.env .Λ) #bus·bus-descriptor code.function (code.unfolded 𝓤 H 𝓜 𝓡)
+    (tables 𝓤 H 𝓜 𝓡 code.env .C) (tables 𝓤 H 𝓜 𝓡 code.env .Λ) #walk·bus-descriptor code.function (code.unfolded 𝓤 H 𝓜 𝓡)
     (meets 𝓤 H (𝓖 .A) (givenOf 𝓤 H 𝓜 𝓖) (𝓜 .mem) (𝓡 .run) (tablesOf 𝓤 H 𝓜 (tables 𝓤 H 𝓜 𝓡 code.env))
     (cited 𝓤 H (DescriptorAt 𝓤 H (𝓖 .A) (𝓜 .mem) (𝓡 .run)) 𝓜 𝓡 code.env #walk·descriptor-at g-def.routine code.calls-walk·descriptor-at (g-thm.met 𝓤 H 𝓜 𝓖 𝓡)))

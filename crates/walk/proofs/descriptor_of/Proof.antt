@@ -1,4 +1,4 @@
--- `bus::descriptor_of` meets its contract: a walk of its MIR, by hand. The reader is made of the slice in a local, and `bus_descriptor` is called on it.
+-- `walk::descriptor_of` meets its contract: a walk of its MIR, by hand. The reader is made of the slice in a local, and `bus_descriptor` is called on it.
 -- All that is known of `bus_descriptor` is that it meets its contract. In a local of a body the reader's lifetime is `erased`.
 -- Assumes nothing.
 use mathlib.Core.Path.{_≡_, refl}
@@ -39,24 +39,24 @@ use denote.Triple.Table.{entered, cited}
 use denote.Triple.Walked.{says, Stays, stay-dropped, walkOf, goes-dropped, Walks, ends-at, walked, walk-meets}
 use denote.Exit.{yes}
 use denote.Triple.Clauses.{ensured, lasts}
 use Rattle.walk.specs.Walk.{descriptorAt}
-use Rattle.bus.specs.declared.Bus.{Bus}
+use Rattle.walk.specs.declared.Bus.{Bus}
 use Rattle.values.specs.declared.PhysicalAddress.{PhysicalAddress}
 use Rattle.walk.specs.declared.Descriptor.{Descriptor}
-use Rattle.bus.proofs.Bus as T
-use Rattle.bus.proofs.Bus.Laws as T′
+use Rattle.walk.proofs.Bus as T
+use Rattle.walk.proofs.Bus.Laws as T′
 use Rattle.values.proofs.PhysicalAddress as P
 use Rattle.values.proofs.PhysicalAddress.Laws as P′
 use Rattle.walk.proofs.Descriptor as S
 use Rattle.walk.proofs.Descriptor.Laws as S′
-use Rattle.bus.proofs.bus_descriptor as g
-use Rattle.bus.proofs.bus_descriptor.Symbol as g-def
-use Rattle.bus.proofs.bus_descriptor.Symbol.{name as #bus·bus-descriptor}
-use Rattle.bus.proofs.bus_descriptor.Met as g-thm
-use Rattle.bus.proofs.descriptor_of.Key.{name as #bus·descriptor-of}
-use Rattle.bus.proofs.descriptor_of as f
-use Rattle.bus.proofs.descriptor_of.Statement as stated
-use Rattle.bus.proofs.descriptor_of.Code as code
+use Rattle.walk.proofs.bus_descriptor as g
+use Rattle.walk.proofs.bus_descriptor.Symbol as g-def
+use Rattle.walk.proofs.bus_descriptor.Symbol.{name as #walk·bus-descriptor}
+use Rattle.walk.proofs.bus_descriptor.Met as g-thm
+use Rattle.walk.proofs.descriptor_of.Key.{name as #walk·descriptor-of}
+use Rattle.walk.proofs.descriptor_of as f
+use Rattle.walk.proofs.descriptor_of.Statement as stated
+use Rattle.walk.proofs.descriptor_of.Code as code
 
 -- the reader's type, over the signature's lifetimes
 abbrev B : Lfts 1 → RattleType
@@ -120,7 +120,7 @@ module _ {M : Type 1} (𝓤 : URA M) (H : Heap 𝓤) (A : Atoms 𝓤) (W : Given
       suffices ! _ (ends-at 𝓤 H A f.ended stayed (f.clauses 𝓤 H A mem run) W (((κ, tt), (q, tt), tt, x, at), tt) u r (tt, (tt, tt)) (tt, (tt, tt))) $ says ! e $
       move ! (1 ∷ []) $ frame ! $ nothing ! $ nothing ! $ fjoin ! $ nothing ! $ fjoin ! $ frame ! $ done !
 
-  module _ (C : Calls 𝓤 H) (Λ : Loops 𝓤 H) (fm : FmC 𝓤 H (W .laws) C) (known : Triple 𝓤 (C #bus·bus-descriptor) (BusDescriptor 𝓤 H A mem run)) where
+  module _ (C : Calls 𝓤 H) (Λ : Loops 𝓤 H) (fm : FmC 𝓤 H (W .laws) C) (known : Triple 𝓤 (C #walk·bus-descriptor) (BusDescriptor 𝓤 H A mem run)) where
     walk : Is (ShrSlice (named 0) κ u8) s (v ∷ []) → Is P.the-row p (pv ∷ []) → ent 𝓤 (onEntry 𝓤 H A f.signature (κ, tt) (q, tt) x at) (WpFn 𝓤 H C Λ code.function (v ∷ pv ∷ []) Post)
     walk s-is p-is =
         let wt = shr-slice-lawful 𝓤 H A W (named 0) κ u8 .typed s (v ∷ []) s-is .0 in
@@ -139,14 +139,14 @@ module _ {M : Type 1} (𝓤 : URA M) (H : Heap 𝓤) (A : Atoms 𝓤) (W : Given
         move ! (8 ∷ 9 ∷ []) $ free1 ! $ move ! (6 ∷ 7 ∷ []) $ free1 ! $ move ! (4 ∷ 5 ∷ []) $ free1 ! $ move ! (2 ∷ 3 ∷ []) $ free1 ! $ free0 ! $ by ! (exits r u e)))))))))
 
 module _ {M : Type 1} (𝓤 : URA M) (H : Heap 𝓤) (A : Atoms 𝓤) (W : Given 𝓤 H A) (mem : Memory → SProp 𝓤) (run : Routine → Fun 𝓤) where
-  walks : (C : Calls 𝓤 H) (Λ : Loops 𝓤 H) → FmC 𝓤 H (W .laws) C → Triple 𝓤 (C #bus·bus-descriptor) (BusDescriptor 𝓤 H A mem run)
+  walks : (C : Calls 𝓤 H) (Λ : Loops 𝓤 H) → FmC 𝓤 H (W .laws) C → Triple 𝓤 (C #walk·bus-descriptor) (BusDescriptor 𝓤 H A mem run)
       → Walks 𝓤 H A f.ended stayed (WpFn 𝓤 H C Λ code.function) (f.clauses 𝓤 H A mem run)
   walks C Λ fm known = walked 𝓤 H A f.ended stayed (f.clauses 𝓤 H A mem run) (WpFn 𝓤 H C Λ code.function)
       (λ κs. (slice-vals, (LL.vals P.the-type P′.the-laws, tt))) (λ κs. (shr-slice-tells (named 0) (κs .0) u8, (LL.tells P.the-type P′.the-laws, tt)))
       (λ κs qs bounds a g are. via 𝓤 _ (fst∗ 𝓤 _ (emp 𝓤)) (walk 𝓤 H A W mem run (κs .0) (qs .0) (a .0) (a .1 .0) C Λ fm known (are .0) (are .1 .0)))
 
 meets : {M : Type 1} (𝓤 : URA M) (H : Heap 𝓤) (A : Atoms 𝓤) (W : Given 𝓤 H A) (mem : Memory → SProp 𝓤) (run : Routine → Fun 𝓤) (𝓣 : Tables 𝓤 H)
-    → Triple 𝓤 (𝓣 .C #bus·bus-descriptor) (BusDescriptor 𝓤 H A mem run) → Meets 𝓤 H A f.signature (WpFn 𝓤 H (𝓣 .C) (𝓣 .Λ) code.function) (f.spec 𝓤 H A mem run)
+    → Triple 𝓤 (𝓣 .C #walk·bus-descriptor) (BusDescriptor 𝓤 H A mem run) → Meets 𝓤 H A f.signature (WpFn 𝓤 H (𝓣 .C) (𝓣 .Λ) code.function) (f.spec 𝓤 H A mem run)
 meets 𝓤 H A W mem run 𝓣 known =
     walk-meets 𝓤 H A f.ended stayed W (goes-dropped 𝓤 H A W 1 (shrSliceOf (0 ∷ []) tt (plain (λ _. u8))) yes (λ κs x f. refl), (goes-dropped 𝓤 H A W 1 (plain (λ _. P.the-row)) yes (λ κs x f. refl), tt)) (f.clauses 𝓤 H A mem run)
     (WpFn 𝓤 H (𝓣 .C) (𝓣 .Λ) code.function) (WpFn-mono 𝓤 H (W .laws) 𝓣 code.function) (walks 𝓤 H A W mem run (𝓣 .C) (𝓣 .Λ) (fmOf 𝓤 H (W .laws) 𝓣) known)
@@ -155,6 +155,6 @@ pub descriptor-of-spec : {M : Type 1} → stated.statement M
 unfolding code.routine tablesOf
 descriptor-of-spec 𝓤 H 𝓜 𝓖 𝓡 =
     entered 𝓤 H (tripleOf 𝓤 H (𝓖 .A) f.signature (f.spec 𝓤 H (𝓖 .A) (𝓜 .mem) (𝓡 .run)))
-    (tables 𝓤 H 𝓜 𝓡 code.env .C) (tables 𝓤 H 𝓜 𝓡 code.env .Λ) #bus·descriptor-of code.function (code.unfolded 𝓤 H 𝓜 𝓡)
+    (tables 𝓤 H 𝓜 𝓡 code.env .C) (tables 𝓤 H 𝓜 𝓡 code.env .Λ) #walk·descriptor-of code.function (code.unfolded 𝓤 H 𝓜 𝓡)
     (meets 𝓤 H (𝓖 .A) (givenOf 𝓤 H 𝓜 𝓖) (𝓜 .mem) (𝓡 .run) (tablesOf 𝓤 H 𝓜 (tables 𝓤 H 𝓜 𝓡 code.env))
-    (cited 𝓤 H (BusDescriptor 𝓤 H (𝓖 .A) (𝓜 .mem) (𝓡 .run)) 𝓜 𝓡 code.env #bus·bus-descriptor g-def.routine code.calls-bus·bus-descriptor (g-thm.met 𝓤 H 𝓜 𝓖 𝓡)))
+    (cited 𝓤 H (BusDescriptor 𝓤 H (𝓖 .A) (𝓜 .mem) (𝓡 .run)) 𝓜 𝓡 code.env #walk·bus-descriptor g-def.routine code.calls-walk·bus-descriptor (g-thm.met 𝓤 H 𝓜 𝓖 𝓡)))
