@@ -6,6 +6,7 @@ use mathlib.Core.Path.{_≡_, refl, sym, _∙_, ap}
 use mathlib.Core.List.{List}
 use Rattle.values.specs.declared.Access.{Access}
 use Rattle.values.specs.declared.Entry.{Entry}
+use Rattle.values.specs.declared.Status.{Status}
 use Rattle.values.specs.declared.VirtualAddress.{VirtualAddress}
 use Rattle.tlb.specs.Packing.{entriesOf}
 use Rattle.translation.specs.Alignment.{cleared}
@@ -13,11 +14,12 @@ use Rattle.translation.specs.Translation.{translation, entriesAfter, pointerAft
 use Rattle.translation.specs.Ranges.{CheckedRanged, CheckedIs}
 use Rattle.translation.specs.declared.Translation.{Translation}
 use Rattle.translation.specs.declared.Checked.{Checked}
+use Rattle.translation.specs.declared.Checked.the-variants.{Denied}
 use Rattle.access.specs.declared.Small.{Small}
 use Rattle.access.specs.declared.Reached.{Reached}
 use Rattle.sound.specs.Machine.{Machine}
-use Rattle.access.specs.Access.{Reach, translate, committed, reach, load, loadAt, store, storeAt}
-use Rattle.access.specs.Code.{Lists, machineOf, reachOf, Reaches, SideReady, CleanReady}
+use Rattle.access.specs.Access.{Reach, translate, committed, reach, load, loadAt, store, storeAt, faulted}
+use Rattle.access.specs.Code.{Lists, machineOf, reachOf, Reaches, SideReady, CleanReady, accessed, accessedAt}
 
 -- the small parts once TLB and misses have changed
 abbrev pub committedSmall : Small → ℕ → ℕ → Small
@@ -80,11 +82,21 @@ clean-ready s l k =
     }
 
 -- an access by what alignment, translation and rights give
-module _ (m : Machine) (a : Access) (x : Reach) (c : Checked) where
-  pub load-through : (signed : Bool) → x ≡ reach m a false → x .checked ≡ c → load m signed a ≡ loadAt (x .machine) signed a c
-  unfolding load
-  load-through signed e f = rw (← e, f)
+module _ (m : Machine) (a : Access) (signed : Bool) (v : ℕ) where
+  pub through : (stores : Bool) (x : Reach) (c : Checked) → x ≡ reach m a stores → x .checked ≡ c → accessed m stores signed a v ≡ accessedAt (x .machine) stores signed a v c
+  unfolding accessed accessedAt load store
+  through true x c e f = rw (← e, f)
+  through false x c e f = rw (← e, f)
 
-  pub store-through : (v : ℕ) → x ≡ reach m a true → x .checked ≡ c → store m a v ≡ storeAt (x .machine) a v c
-  unfolding store
-  store-through v e f = rw (← e, f)
+  pub denied : (stores : Bool) (s : Status) (d : ℕ) → accessedAt m stores signed a v (Denied s d) ≡ faulted m s d (a .address)
+  unfolding accessedAt loadAt storeAt
+  denied true s d = refl
+  denied false s d = refl
+
+  pub stores-at : (stores : Bool) (c : Checked) → stores ≡ true → storeAt m a v c ≡ accessedAt m stores signed a v c
+  unfolding accessedAt
+  stores-at stores c e = rw e
+
+  pub loads-at : (stores : Bool) (c : Checked) → stores ≡ false → loadAt m signed a c ≡ accessedAt m stores signed a v c
+  unfolding accessedAt
+  loads-at stores c e = rw e

@@ -1,6 +1,6 @@
 -- What the code of an access holds of the library's machine, beside the lent lists, and what it asks of them.
 use Prim.Native.Nat.{ℕ, _+_, _*_, _%_, _<_, _≤_}
-use mathlib.Core.Bool.{true}
+use mathlib.Core.Bool.{Bool, true, false}
 use mathlib.Core.Path.{_≡_}
 use mathlib.Core.List.{List}
 use lib.ListN.{length, getD}
@@ -14,11 +14,12 @@ use Rattle.cache.specs.Dcache.{dirtyHalves}
 use Rattle.cache.specs.Packing.{lineOf, sideOf}
 use Rattle.sound.specs.Machine.{Machine}
 use Rattle.translation.specs.Alignment.{cleared}
+use Rattle.translation.specs.declared.Checked.{Checked}
 use Rattle.translation.specs.Ranges.{CheckedRanged}
 use Rattle.access.specs.declared.Small.{Small}
 use Rattle.access.specs.declared.Outcome.{Outcome}
 use Rattle.access.specs.declared.Reached.{Reached}
-use Rattle.access.specs.Access.{Stepped, Reach}
+use Rattle.access.specs.Access.{Stepped, Reach, load, loadAt, store, storeAt}
 
 -- the lists that the data side of the machine is lent
 pub record Lists : Type 0 where
@@ -85,3 +86,13 @@ pub record Reaches (a : Access) (r : Reached) (s : Small) : Type 0 where
   pub hits : r .small .counts .hits ≡ s .counts .hits
   pub fills : r .small .counts .fills ≡ s .counts .fills
   pub halves : r .small .counts .halves ≡ s .counts .halves
+
+-- an access by whether it stores; a load by whether it is signed, a store by its value
+unfoldable pub accessed : Machine → Bool → Bool → Access → ℕ → Stepped
+accessed m true signed a v = store m a v
+accessed m false signed a v = load m signed a
+
+-- and the same once alignment, translation and rights are checked
+unfoldable pub accessedAt : Machine → Bool → Bool → Access → ℕ → Checked → Stepped
+accessedAt m true signed a v c = storeAt m a v c
+accessedAt m false signed a v c = loadAt m signed a c

@@ -14,7 +14,7 @@ ghost use Rattle.translation.specs.Alignment as aligned;
 ghost use Rattle.translation.specs.Translation as mapped;
 ghost use Rattle.translation.specs.Ranges.{Is, Ranged, PlaceRanged, CheckedRanged};
 ghost use Rattle.access.specs.Access as spec;
-ghost use Rattle.access.specs.Code.{Lists, machineOf, steppedOf, reachOf, TlbReady, SideReady, Reaches};
+ghost use Rattle.access.specs.Code.{Lists, machineOf, steppedOf, reachOf, accessed, accessedAt, TlbReady, SideReady, Reaches};
 use translation::Checked;
 use translation::Place;
 use translation::Translation;
@@ -137,7 +137,7 @@ fn reach_mapped(
 }
 
 // Alignment, translation and rights.
-pub fn reach(
+fn reach(
     table: &[u8; 256],
     memory: &[u8],
     entries: &mut [u64],
@@ -418,49 +418,6 @@ fn load_passed(
     }
 }
 
-// A load.
-pub fn load(
-    table: &[u8; 256],
-    memory: &mut [u8],
-    words: &mut [u64],
-    bytes: &mut [[u8; 16]; 8],
-    lines: &mut [u64],
-    pointers: &mut [u32],
-    store: &mut [u8],
-    entries: &mut [u64],
-    s: Small,
-    signed: bool,
-    a: Access,
-) -> Outcome
-    requires { ⌜ (now table ≡ rightsTable) × TlbReady (now entries) s
-        × SideReady (record { memory = now memory; words = now words; bytes = now bytes; lines = now lines; pointers = now pointers; store = now store }) s
-        × (isWidth (a .width) ≡ true) ⌝ }
-    ensures { λ r.
-        ⌜ ((size : ℕ)
-        → steppedOf (record { memory = now (memory .exit); words = now (words .exit); bytes = now (bytes .exit); lines = now (lines .exit); pointers = now (pointers .exit); store = now (store .exit) }) (now (entries .exit)) size r
-        ≡ spec.load (machineOf (record { memory = now (memory .entry); words = now (words .entry); bytes = now (bytes .entry); lines = now (lines .entry); pointers = now (pointers .entry); store = now (store .entry) }) (now (entries .entry)) s size) signed a) × (length (now (bytes .exit)) ≡ 8) ⌝ }
-{
-    let address = a.address;
-    let reached = reach(table, memory, entries, s, a, false);
-    let t = reached.small;
-    let c = reached.checked;
-    match c {
-        Checked::Passed(p) => load_passed(
-            memory,
-            words,
-            bytes,
-            lines,
-            pointers,
-            store,
-            t,
-            signed,
-            a,
-            p,
-        ),
-        Checked::Denied(status, d) => faulted(t, status, d, address),
-    }
-}
-
 // ---- stores
 
 // A served store answers 0.
@@ -601,33 +558,90 @@ fn store_passed(
     }
 }
 
-// A store.
-pub fn store(
+// ---- accesses
+
+// An access that passed.
+fn passed(
+    memory: &mut [u8],
+    words: &mut [u64],
+    bytes: &mut [[u8; 16]; 8],
+    lines: &mut [u64],
+    pointers: &mut [u32],
+    store: &mut [u8],
+    s: Small,
+    stores: bool,
+    signed: bool,
+    a: Access,
+    v: u32,
+    p: Place,
+) -> Outcome
+    requires { ⌜ SideReady (record { memory = now memory; words = now words; bytes = now bytes; lines = now lines; pointers = now pointers; store = now store }) s
+        × (isWidth (a .width) ≡ true) × PlaceRanged (aligned.cleared a) p ⌝ }
+    ensures { λ r.
+        ⌜ ((entries : List ℕ) (size : ℕ)
+        → steppedOf (record { memory = now (memory .exit); words = now (words .exit); bytes = now (bytes .exit); lines = now (lines .exit); pointers = now (pointers .exit); store = now (store .exit) }) entries size r
+        ≡ accessedAt (machineOf (record { memory = now (memory .entry); words = now (words .entry); bytes = now (bytes .entry); lines = now (lines .entry); pointers = now (pointers .entry); store = now (store .entry) }) entries s size) stores signed a v (Checked.Passed p)) × (length (now (bytes .exit)) ≡ 8) ⌝ }
+{
+    if stores {
+        return store_passed(memory, words, bytes, lines, store, s, a, v, p);
+    }
+    load_passed(
+        memory,
+        words,
+        bytes,
+        lines,
+        pointers,
+        store,
+        s,
+        signed,
+        a,
+        p,
+    )
+}
+
+// A load, signed or not, or a store of a value.
+pub fn serve(
     table: &[u8; 256],
     memory: &mut [u8],
     words: &mut [u64],
     bytes: &mut [[u8; 16]; 8],
     lines: &mut [u64],
+    pointers: &mut [u32],
     store: &mut [u8],
     entries: &mut [u64],
     s: Small,
+    stores: bool,
+    signed: bool,
     a: Access,
     v: u32,
 ) -> Outcome
-    requires { ⌜ (now table ≡ rightsTable) × TlbReady (now entries) s × Fits (now memory) (now words) (now bytes) (s .used)
-        × (length (now lines) ≡ 512) × (length (now store) ≡ 16384) × (length (now memory) % 32 ≡ 0) × (s .counts .hits < 4294967295)
+    requires { ⌜ (now table ≡ rightsTable) × TlbReady (now entries) s
+        × SideReady (record { memory = now memory; words = now words; bytes = now bytes; lines = now lines; pointers = now pointers; store = now store }) s
         × (isWidth (a .width) ≡ true) ⌝ }
     ensures { λ r.
-        ⌜ ((pointers : List ℕ) (size : ℕ)
-        → steppedOf (record { memory = now (memory .exit); words = now (words .exit); bytes = now (bytes .exit); lines = now (lines .exit); pointers = pointers; store = now (store .exit) }) (now (entries .exit)) size r
-        ≡ spec.store (machineOf (record { memory = now (memory .entry); words = now (words .entry); bytes = now (bytes .entry); lines = now (lines .entry); pointers = pointers; store = now (store .entry) }) (now (entries .entry)) s size) a v) × (length (now (bytes .exit)) ≡ 8) ⌝ }
+        ⌜ ((size : ℕ)
+        → steppedOf (record { memory = now (memory .exit); words = now (words .exit); bytes = now (bytes .exit); lines = now (lines .exit); pointers = now (pointers .exit); store = now (store .exit) }) (now (entries .exit)) size r
+        ≡ accessed (machineOf (record { memory = now (memory .entry); words = now (words .entry); bytes = now (bytes .entry); lines = now (lines .entry); pointers = now (pointers .entry); store = now (store .entry) }) (now (entries .entry)) s size) stores signed a v) × (length (now (bytes .exit)) ≡ 8) ⌝ }
 {
     let address = a.address;
-    let reached = reach(table, memory, entries, s, a, true);
+    let reached = reach(table, memory, entries, s, a, stores);
     let t = reached.small;
     let c = reached.checked;
     match c {
-        Checked::Passed(p) => store_passed(memory, words, bytes, lines, store, t, a, v, p),
+        Checked::Passed(p) => passed(
+            memory,
+            words,
+            bytes,
+            lines,
+            pointers,
+            store,
+            t,
+            stores,
+            signed,
+            a,
+            v,
+            p,
+        ),
         Checked::Denied(status, d) => faulted(t, status, d, address),
     }
 }

@@ -188,18 +188,7 @@ pub struct Answered {
     pub code: u64,
 }
 
-// The answer to numbers that are no call: nothing changes.
-fn no_call(state: State, cp15: Cp15) -> Answered
-    ensures { λ r. ⌜ r ≡ record { state = state; cp15 = cp15; code = 12884901888 } ⌝ }
-{
-    Answered {
-        state,
-        cp15,
-        code: 12884901888,
-    }
-}
-
-// A call of five numbers.
+// A call of five numbers: a run over a list of that call. A run leaves the answer as it is where the numbers are no call.
 #[no_mangle]
 pub extern "C" fn sa110_call(
     state: State,
@@ -216,18 +205,12 @@ pub extern "C" fn sa110_call(
         ⌜ coded.answeredOf (now (memory .exit)) (now (store .exit)) r
         ≡ coded.calledBy (machineIn (now (memory .entry)) (now (store .entry)) state cp15) kind privileged n a v ⌝ }
 {
-    if kind > 4 {
-        return no_call(state, cp15);
-    }
-    if privileged > 1 {
-        return no_call(state, cp15);
-    }
-    let c = trace::call_of(kind, privileged, n, a, v);
-    let r = sa110::call(state, cp15, memory, store, c);
-    let answer = r.answer;
+    let calls = [kind, privileged, n, a, v];
+    let mut answers = [12884901888u64; 1];
+    let r = sa110::run(state, cp15, memory, store, &calls, &mut answers);
     let after = r.state;
     let left = r.cp15;
-    let code = trace::code(answer);
+    let code = answers[0];
     Answered {
         state: after,
         cp15: left,

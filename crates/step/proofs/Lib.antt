@@ -1,3 +1,4 @@
+pub mod Requests
 pub mod SoundKept
 pub mod Ready
 pub mod StateRefusals

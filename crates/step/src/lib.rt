@@ -9,12 +9,33 @@ ghost use Rattle.sound.specs.Machine.{Machine};
 ghost use Rattle.step.specs.Refusals.{stateRefusal};
 ghost use Rattle.step.specs.Call as spec;
 ghost use Rattle.step.specs.Batch as batch;
-ghost use Rattle.step.specs.Code.{Serves};
+ghost use Rattle.step.specs.Code.{Serves, requestOf};
 ghost use Rattle.trace.specs.Fold.{callsIn, Holds, Left};
 use access::Outcome;
 use access::Small;
+use values::Access;
 use values::Answer;
 use values::Call;
+use values::Transfer;
+
+// What a call asks: an access by whether it stores, whether it is signed, and the value that it stores; or a CP15 read or write.
+pub enum Request {
+    Access(Access, bool, bool, u32),
+    Read(Transfer),
+    Write(Transfer, u32),
+}
+
+fn asked(c: Call) -> Request
+    ensures { λ r. ⌜ r ≡ requestOf c ⌝ }
+{
+    match c {
+        Call::Load(a) => Request::Access(a, false, false, 0),
+        Call::SignedLoad(a) => Request::Access(a, false, true, 0),
+        Call::Store(a, v) => Request::Access(a, true, false, v),
+        Call::Read(t) => Request::Read(t),
+        Call::Write(t, v) => Request::Write(t, v),
+    }
+}
 
 // A call that is not refused.
 fn done(
@@ -37,8 +58,9 @@ fn done(
         → steppedOf (record { memory = now (memory .exit); words = now (words .exit); bytes = now (bytes .exit); lines = now (lines .exit); pointers = now (pointers .exit); store = now (store .exit) }) (now (entries .exit)) size r
         ≡ spec.done (machineOf (record { memory = now (memory .entry); words = now (words .entry); bytes = now (bytes .entry); lines = now (lines .entry); pointers = now (pointers .entry); store = now (store .entry) }) (now (entries .entry)) s size) c) × (length (now (bytes .exit)) ≡ 8) ⌝ }
 {
-    match c {
-        Call::Load(a) => access::load(
+    let q = asked(c);
+    match q {
+        Request::Access(a, stores, signed, v) => access::serve(
             table,
             memory,
             words,
@@ -48,36 +70,26 @@ fn done(
             store,
             entries,
             s,
-            false,
-            a,
-        ),
-        Call::SignedLoad(a) => access::load(
-            table,
-            memory,
-            words,
-            bytes,
-            lines,
-            pointers,
-            store,
-            entries,
-            s,
-            true,
-            a,
-        ),
-        Call::Store(a, v) => access::store(
-            table,
-            memory,
-            words,
-            bytes,
-            lines,
-            store,
-            entries,
-            s,
+            stores,
+            signed,
             a,
             v,
         ),
-        Call::Read(t) => cp15::read(s, t),
-        Call::Write(t, v) => cp15::write(memory, words, bytes, lines, store, entries, s, t, v),
+        Request::Read(t) => cp15::read(s, t),
+        Request::Write(t, v) => cp15::write(memory, words, bytes, lines, store, entries, s, t, v),
+    }
+}
+
+// Refusals 6 to 12, or 0. Those of an access are tested here, by code that a compiler puts in place.
+fn refusal(c: Call) -> u32
+    ensures { λ r. ⌜ r ≡ refused.callRefusal c ⌝ }
+{
+    match c {
+        Call::Load(a) => translation::load_refusal(a),
+        Call::SignedLoad(a) => translation::load_refusal(a),
+        Call::Store(a, v) => translation::store_refusal(a, v),
+        Call::Read(t) => registers::call_refusal(c),
+        Call::Write(t, v) => registers::call_refusal(c),
     }
 }
 
@@ -123,7 +135,7 @@ pub fn step(
             answer: Answer::Refused(5),
         };
     }
-    let n = registers::call_refusal(c);
+    let n = refusal(c);
     if n != 0 {
         return Outcome {
             small: s,

@@ -1,2 +1,3 @@
 pub mod Tlb
 pub mod Packing
+pub mod Keyed

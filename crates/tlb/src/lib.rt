@@ -1,11 +1,12 @@
 // The TLB: 32 entries, each one word, in a lent slice.
 ghost use mathlib.Core.Path.{_≡_};
 ghost use mathlib.Core.Bool.{true};
-ghost use Prim.Native.Nat.{_<_};
-ghost use lib.ListN.{length};
+ghost use Prim.Native.Nat.{ℕ, _<_};
+ghost use lib.ListN.{length, getD};
 ghost use Rattle.tlb.specs.Tlb as spec;
 ghost use Rattle.tlb.specs.Tlb.{covers, placed, flushed, dropped, stepped};
 ghost use Rattle.tlb.specs.Packing.{entryOf, wordOf, entriesOf};
+ghost use Rattle.tlb.specs.Keyed.{keyOf, keysOf};
 ghost use Rattle.walk.specs.Ranges.{InRange};
 use values::Entry;
 use values::PhysicalAddress;
@@ -59,17 +60,60 @@ pub fn covers(w: u64, va: VirtualAddress) -> bool
     va.0 / 4096 * 4096 == vbase
 }
 
+// The bits of a word that say what it covers: whether it is valid, its size, its virtual base.
+fn key(w: u64) -> u64
+    ensures { λ r. ⌜ r ≡ keyOf w ⌝ }
+{
+    w / 17592186044416 * 17592186044416 + w / 8 % 32 * 8 + w % 2
+}
+
+// The keys of the section, the large page and the small page that an address lies in.
+pub struct Keys {
+    pub section: u64,
+    pub large: u64,
+    pub small: u64,
+}
+
+fn keys_of(va: VirtualAddress) -> Keys
+    ensures { λ r. ⌜ r ≡ keysOf va ⌝ }
+{
+    let page = (va.0 / 4096) as u64;
+    Keys {
+        section: page / 256 * 4503599627370496 + 1,
+        large: page / 16 * 281474976710656 + 9,
+        small: page * 17592186044416 + 17,
+    }
+}
+
+// Whether a word has one of the keys.
+fn has_key(w: u64, k: Keys) -> bool
+    ensures { λ r. ⌜ ((va : VirtualAddress) → k ≡ keysOf va → entryOf w .size < 3 → r ≡ spec.covers va (entryOf w)) ⌝ }
+{
+    let n = key(w);
+    if n == k.section {
+        return true;
+    }
+    if n == k.small {
+        return true;
+    }
+    if n == k.large {
+        return true;
+    }
+    false
+}
+
 // The lowest-numbered entry that covers an address.
 pub fn lookup(entries: &[u64], va: VirtualAddress) -> Search
-    requires { ⌜ length (now entries) ≡ 32 ⌝ }
+    requires { ⌜ (length (now entries) ≡ 32) × ((i : ℕ) → i < 32 → InRange (entryOf (getD (now entries) i 0))) ⌝ }
     ensures { λ r. ⌜ r ≡ spec.lookup (entriesOf (now (entries .entry))) va ⌝ }
 {
+    let k = keys_of(va);
     let mut i: usize = 0;
     let found = loop {
         if i == 32 {
             break Search::Nothing;
         }
-        if covers(entries[i], va) {
+        if has_key(entries[i], k) {
             break Search::At(i);
         }
         i += 1;

@@ -13,6 +13,7 @@ ghost use Rattle.translation.specs.Translation as spec;
 ghost use Rattle.translation.specs.Faults as faults;
 ghost use Rattle.translation.specs.Refusals.{loadRefusal, storeRefusal};
 ghost use Rattle.translation.specs.Ranges.{Ranged, Is, CheckedIs};
+ghost use Rattle.translation.specs.Code.{mappedOf};
 use values::Access;
 use values::Answer;
 use values::Entry;
@@ -182,6 +183,24 @@ pub fn check_by(
     judged(right, e, va)
 }
 
+// What a translation maps an address by: nothing, an entry, or a fault.
+pub enum Mapped {
+    Flat,
+    By(Entry),
+    Failed(Status, u32),
+}
+
+fn mapped_by(t: Translation) -> Mapped
+    ensures { λ r. ⌜ r ≡ mappedOf t ⌝ }
+{
+    match t {
+        Translation::Flat => Mapped::Flat,
+        Translation::Held(e) => Mapped::By(e),
+        Translation::Walked(e) => Mapped::By(e),
+        Translation::Failed(s, d) => Mapped::Failed(s, d),
+    }
+}
+
 // Whether a translation lets an access pass.
 pub fn check(
     table: &[u8; 256],
@@ -194,17 +213,17 @@ pub fn check(
     requires { ⌜ (now table ≡ rightsTable) × Ranged t ⌝ }
     ensures { λ c. ⌜ CheckedIs va c (spec.checked r privileged store va t) ⌝ }
 {
-    match t {
-        Translation::Flat => Checked::Passed(Place {
+    let m = mapped_by(t);
+    match m {
+        Mapped::Flat => Checked::Passed(Place {
             address: PhysicalAddress(va.0),
             page: false,
             domain: 0,
             cacheable: false,
             bufferable: false,
         }),
-        Translation::Held(e) => check_by(table, r, privileged, store, va, e),
-        Translation::Walked(e) => check_by(table, r, privileged, store, va, e),
-        Translation::Failed(s, d) => Checked::Denied(s, d),
+        Mapped::By(e) => check_by(table, r, privileged, store, va, e),
+        Mapped::Failed(s, d) => Checked::Denied(s, d),
     }
 }
 

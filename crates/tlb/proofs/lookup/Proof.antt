@@ -4,65 +4,74 @@ use native.Mathlib.Omega.{arith}
 use Prim.Native.Nat.{_-_, _/_, _≤_}
 use lib.ListN.{drop}
 use denote.Ref.{now}
+use Rattle.values.specs.declared.VirtualAddress.{VirtualAddress}
 use Rattle.values.specs.Tests.{firstFrom}
 use Rattle.tlb.specs.Tlb.{covers}
 use Rattle.tlb.specs.Tlb as spec
 use Rattle.tlb.specs.Packing.{entriesOf}
+use Rattle.tlb.specs.Keyed.{keysOf}
 use Rattle.tlb.proofs.Laws.{lookup-hit, lookup-on, lookup-end}
 use Rattle.tlb.proofs.lookup.Statement.{statement}
 use Rattle.tlb.proofs.lookup.Tie as tie
 use Rattle.tlb.proofs.lookup.Reads as reads
 use Rattle.tlb.proofs.lookup.Lts as lts
-use Rattle.tlb.proofs.covers.Reads as covers-reads
+use Rattle.tlb.proofs.has_key.Reads as has-key-reads
+use Rattle.tlb.proofs.keys_of.Reads as keys-of-reads
 
 abbrev Inv-loop : tie.InvT-loop
-Inv-loop entries va i₀ i = (i ≤ 32) × (firstFrom (covers va) i (drop i (entriesOf entries)) ≡ spec.lookup (entriesOf entries) va)
+Inv-loop entries k i₀ i =
+    (i ≤ 32) × ((va : VirtualAddress) → k ≡ keysOf va → firstFrom (covers va) i (drop i (entriesOf entries)) ≡ spec.lookup (entriesOf entries) va)
 
 abbrev μ-loop : tie.MeasureT-loop
-μ-loop entries va i₀ i = 32 - i
+μ-loop entries k i₀ i = 32 - i
 
--- src/lib.rt:75:9
+-- src/lib.rt:110:9
+keys-of-requires : tie.Need-keys-of-requires Inv-loop μ-loop
+keys-of-requires c κs = search needs
+
+-- src/lib.rt:112:9
 loop-holds : tie.Need-loop-holds Inv-loop μ-loop
 unfolding spec.lookup
-loop-holds c = (search needs, refl)
+loop-holds c = (search needs, λ va e. refl)
 
--- src/lib.rt:79:19
-mul-covers : tie.Need-mul-covers Inv-loop μ-loop
-mul-covers c = search needs
+-- src/lib.rt:116:20
+mul-has-key : tie.Need-mul-has-key Inv-loop μ-loop
+mul-has-key c = search needs
 
--- src/lib.rt:79:19
-shared-slice-read-covers : tie.Need-shared-slice-read-covers Inv-loop μ-loop
-shared-slice-read-covers c = search needs
+-- src/lib.rt:116:20
+shared-slice-read-has-key : tie.Need-shared-slice-read-has-key Inv-loop μ-loop
+shared-slice-read-has-key c = search needs
 
--- src/lib.rt:79:12
-covers-requires : tie.Need-covers-requires Inv-loop μ-loop
-covers-requires c κs = search needs
+-- src/lib.rt:116:12
+has-key-requires : tie.Need-has-key-requires Inv-loop μ-loop
+has-key-requires c κs = search needs
 
--- src/lib.rt:82:9
+-- src/lib.rt:119:9
 add-i : tie.Need-add-i Inv-loop μ-loop
 add-i c = search needs
 
--- src/lib.rt:75:9
+-- src/lib.rt:112:9
 loop-less : tie.Need-loop-less Inv-loop μ-loop
 loop-less c = search needs
 
--- src/lib.rt:75:9
+-- src/lib.rt:112:9
 loop-again : tie.Need-loop-again Inv-loop μ-loop
-loop-again c = let a = c .before .before .before .before .before .before .args in
+loop-again c = let a = c .before .before .before .before .before .before .before .args in
     let l = c .before .before .before .before .loop in
-    (omega arith, sym (lookup-on (now (a .entries)) (a .va) (l .i) (omega arith) (sym (c .before .covers .ensures) ∙ c .if2 .left)) ∙ l .inv .1)
+    (omega arith, λ va e. sym (lookup-on (now (a .entries)) va (l .i) (omega arith) (sym (c .before .has-key .ensures va e (c .before .before .before .before .before .before .before .pre .1 (l .i) (omega arith) .size)) ∙ c .if2 .left)) ∙ l .inv .1 va e)
 
--- src/lib.rt:70:1
+-- src/lib.rt:106:1
 returns : tie.Need-returns Inv-loop μ-loop
-returns c = let a = c .before .before .before .args in
+returns c = let a = c .before .before .before .before .args in
     let l = c .before .loop in
-    sym (lookup-end (now (a .entries)) (a .va) (l .i) (omega arith)) ∙ l .inv .1
+    sym (lookup-end (now (a .entries)) (a .va) (l .i) (omega arith)) ∙ l .inv .1 (a .va) (c .before .before .keys-of .ensures)
 
--- src/lib.rt:70:1
+-- src/lib.rt:106:1
 returns-2 : tie.Need-returns-2 Inv-loop μ-loop
-returns-2 c = let a = c .before .before .before .before .before .before .args in
+returns-2 c = let a = c .before .before .before .before .before .before .before .args in
     let l = c .before .before .before .before .loop in
-    sym (lookup-hit (now (a .entries)) (a .va) (l .i) (omega arith) (sym (c .before .covers .ensures) ∙ c .if2 .taken)) ∙ l .inv .1
+    let e = c .before .before .before .before .before .keys-of .ensures in
+    sym (lookup-hit (now (a .entries)) (a .va) (l .i) (omega arith) (sym (c .before .has-key .ensures (a .va) e (c .before .before .before .before .before .before .before .pre .1 (l .i) (omega arith) .size)) ∙ c .if2 .taken)) ∙ l .inv .1 (a .va) e
 
 pub lookup-spec : {M : Type 1} → statement M
 lookup-spec =
@@ -70,10 +79,11 @@ lookup-spec =
     (tie.spec
     Inv-loop
     μ-loop
+    keys-of-requires
     loop-holds
-    mul-covers
-    shared-slice-read-covers
-    covers-requires
+    mul-has-key
+    shared-slice-read-has-key
+    has-key-requires
     add-i
     loop-less
     loop-again
