@@ -6,11 +6,9 @@ use Rattle.access.proofs.faulted.Reads as reads
 use Rattle.access.proofs.faulted.Lts as lts
 use Rattle.translation.proofs.fault_set.Reads as fault-set-reads
 
--- src/lib.rt:175:9
 fault-set-requires : tie.Need-fault-set-requires
 fault-set-requires c κs = search needs
 
--- src/lib.rt:165:1
 returns : tie.Need-returns
 returns c = let a = c .before .before .args in λ l es n. faulted-left es (a .s) n l (a .status) (a .domain) (a .address) _ (c .fault-set .ensures)
 

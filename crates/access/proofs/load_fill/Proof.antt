@@ -16,51 +16,39 @@ use Rattle.cache.proofs.load.Reads as load-reads
 use Rattle.translation.proofs.cleared.Reads as cleared-reads
 use Rattle.translation.proofs.load_answer.Reads as load-answer-reads
 
--- src/lib.rt:274:9
 cleared-requires : tie.Need-cleared-requires
 cleared-requires c κs = search needs
 
--- src/lib.rt:275:9
 victim-requires : tie.Need-victim-requires
 victim-requires c κs = let k = c .before .before .before .before .before .before .before .pre .0 in (k .pointers-long, k .pointers-low _ (omega arith))
 
--- src/lib.rt:276:9
 fill-requires : tie.Need-fill-requires
 fill-requires c κs = let k = c .before .before .before .before .before .before .before .before .before .before .before .before .before .before .pre in (k .0 .fits, fills-line (record { memory = now (c .before .before .before .before .before .before .before .before .before .before .before .before .before .before .args .memory); words = now (c .before .before .before .before .before .before .before .before .before .before .before .before .before .before .args .words); bytes = now (c .before .before .before .before .before .before .before .before .before .before .before .before .before .before .args .bytes); lines = now (c .before .before .before .before .before .before .before .before .before .before .before .before .before .before .args .lines); pointers = now (c .before .before .before .before .before .before .before .before .before .before .before .before .before .before .args .pointers); store = now (c .before .before .before .before .before .before .before .before .before .before .before .before .before .before .args .store) }) (c .before .before .before .before .before .before .before .before .before .before .before .before .before .before .args .s) (k .0) _ (c .before .before .before .before .before .before .before .before .before .before .before .before .before .before .args .p) (k .2))
 
--- src/lib.rt:287:9
 load-requires : tie.Need-load-requires
 load-requires c κs = let k = c .before .before .before .before .before .before .before .before .before .before .before .before .before .before .before .before .before .before .before .before .before .before .before .before .before .before .pre in (search needs, c .before .before .before .before .before .before .before .before .before .before .before .before .before .before .before .before .before .before .victim .ensures .1, k .1, rw (c .before .before .before .before .before .before .before .before .before .before .before .before .before .before .before .before .before .before .before .before .cleared .ensures) (in-line (c .before .before .before .before .before .before .before .before .before .before .before .before .before .before .before .before .before .before .before .before .before .before .before .before .before .before .args .a) (k .1)))
 
--- src/lib.rt:289:16
 filled-requires : tie.Need-filled-requires
 filled-requires c κs = let k = c .before .before .before .before .before .before .before .before .before .before .before .before .before .before .before .before .before .before .before .before .before .before .before .before .before .before .before .pre in (k .0 .fills, fill-room (record { memory = now (c .before .before .before .before .before .before .before .before .before .before .before .before .before .before .before .before .before .before .before .before .before .before .before .before .before .before .before .args .memory); words = now (c .before .before .before .before .before .before .before .before .before .before .before .before .before .before .before .before .before .before .before .before .before .before .before .before .before .before .before .args .words); bytes = now (c .before .before .before .before .before .before .before .before .before .before .before .before .before .before .before .before .before .before .before .before .before .before .before .before .before .before .before .args .bytes); lines = now (c .before .before .before .before .before .before .before .before .before .before .before .before .before .before .before .before .before .before .before .before .before .before .before .before .before .before .before .args .lines); pointers = now (c .before .before .before .before .before .before .before .before .before .before .before .before .before .before .before .before .before .before .before .before .before .before .before .before .before .before .before .args .pointers); store = now (c .before .before .before .before .before .before .before .before .before .before .before .before .before .before .before .before .before .before .before .before .before .before .before .before .before .before .before .args .store) }) (c .before .before .before .before .before .before .before .before .before .before .before .before .before .before .before .before .before .before .before .before .before .before .before .before .before .before .before .args .s) (k .0) _ (c .before .before .before .before .before .before .before .before .before .before .before .before .before .before .before .before .before .before .before .before .before .before .before .before .before .before .before .args .p) _ (c .before .before .before .before .before .before .before .before .before .before .before .before .fill .ensures .count))
 
--- src/lib.rt:290:17
 load-answer-requires : tie.Need-load-answer-requires
 load-answer-requires c κs = (c .before .before .before .before .before .before .before .before .before .before .before .before .before .before .before .before .before .before .before .before .before .before .before .before .before .before .before .before .pre .1, c .before .load .ensures .fits)
 
--- src/lib.rt:255:1
 same-length : tie.Need-same-length
 same-length c = search needs
 
--- src/lib.rt:255:1
 same-length-2 : tie.Need-same-length-2
 same-length-2 c = search needs
 
--- src/lib.rt:255:1
 same-length-3 : tie.Need-same-length-3
 same-length-3 c = search needs
 
--- src/lib.rt:255:1
 same-length-4 : tie.Need-same-length-4
 same-length-4 c = search needs
 
--- src/lib.rt:255:1
 same-length-5 : tie.Need-same-length-5
 same-length-5 c = search needs
 
--- src/lib.rt:255:1
 returns : tie.Need-returns
 returns c = let a = c .before .before .before .before .before .before .before .before .before .before .before .before .before .before .before .before .before .before .before .before .before .before .before .before .before .before .before .before .before .args in
     (λ es n. fill-left es (a .s) n (a .signed) (a .a) (record { memory = now (a .memory); words = now (a .words); bytes = now (a .bytes); lines = now (a .lines); pointers = now (a .pointers); store = now (a .store) }) _ (a .p) _ _ _ _ _ _ _ (c .before .before .before .before .before .before .before .before .before .before .before .before .before .before .before .before .before .before .before .before .before .before .before .cleared .ensures) (c .before .before .before .before .before .before .before .before .before .before .before .before .before .before .before .before .before .before .before .before .before .victim .ensures .0) (c .before .before .before .before .before .before .before .before .before .before .before .before .before .before .fill .ensures) (c .before .before .load .ensures .value) (c .before .filled .ensures) (c .load-answer .ensures), c .before .before .before .before .before .before .before .before .before .before .before .before .before .before .fill .ensures .fits .bytes-long)

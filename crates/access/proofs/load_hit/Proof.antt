@@ -13,23 +13,18 @@ use Rattle.cache.proofs.load.Reads as load-reads
 use Rattle.translation.proofs.cleared.Reads as cleared-reads
 use Rattle.translation.proofs.load_answer.Reads as load-answer-reads
 
--- src/lib.rt:233:9
 cleared-requires : tie.Need-cleared-requires
 cleared-requires c κs = search needs
 
--- src/lib.rt:234:9
 load-requires : tie.Need-load-requires
 load-requires c κs = let k = c .before .before .pre in (k .0, k .1, k .2, rw (c .cleared .ensures) (in-line (c .before .before .args .a) (k .2)))
 
--- src/lib.rt:236:16
 hit-requires : tie.Need-hit-requires
 hit-requires c κs = search needs
 
--- src/lib.rt:237:17
 load-answer-requires : tie.Need-load-answer-requires
 load-answer-requires c κs = search needs
 
--- src/lib.rt:227:1
 returns : tie.Need-returns
 returns c = let a = c .before .before .before .before .before .args in
     λ l es n e. hit-left es (a .s) n (a .signed) (a .a) l (now (a .store)) (a .i) _ _ _ _ e (c .before .before .before .cleared .ensures) (c .before .before .load .ensures .value) (c .before .hit .ensures) (c .load-answer .ensures)

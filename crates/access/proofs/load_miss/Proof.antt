@@ -14,67 +14,52 @@ use Rattle.access.proofs.load_outside.Reads as load-outside-reads
 use Rattle.access.proofs.load_uncached.Reads as load-uncached-reads
 use Rattle.translation.proofs.fills.Reads as fills-reads
 
--- src/lib.rt:345:9
 cast-if1 : tie.Need-cast-if1
 cast-if1 c = search needs
 
--- src/lib.rt:346:12
 fills-requires : tie.Need-fills-requires
 fills-requires c κs = search needs
 
--- src/lib.rt:347:13
 load-fill-requires : tie.Need-load-fill-requires
 load-fill-requires c κs = search needs
 
--- src/lib.rt:347:13
 same-length : tie.Need-same-length
 same-length c = search needs
 
--- src/lib.rt:347:13
 same-length-2 : tie.Need-same-length-2
 same-length-2 c = search needs
 
--- src/lib.rt:347:13
 same-length-3 : tie.Need-same-length-3
 same-length-3 c = search needs
 
--- src/lib.rt:347:13
 same-length-4 : tie.Need-same-length-4
 same-length-4 c = search needs
 
--- src/lib.rt:347:13
 same-length-5 : tie.Need-same-length-5
 same-length-5 c = search needs
 
--- src/lib.rt:347:13
 returns : tie.Need-returns
 returns c = let a = c .before .before .before .before .before .before .before .before .before .before .before .before .before .before .before .before .before .before .before .before .before .before .before .before .before .before .before .before .args in
     let f : fills (a .s .cp15 .registers) (a .p) ≡ true = sym (c .before .before .before .before .before .before .before .before .before .before .before .before .before .before .before .before .before .before .fills .ensures) ∙ c .before .before .before .before .before .before .before .before .before .before .before .before .before .before .before .before .before .if2 .taken in
     (λ es n. c .before .before .before .before .before .before .before .before .before .before .load-fill .ensures .0 es n ∙ sym (miss-fill (machineOf (record { memory = now (a .memory); words = now (a .words); bytes = now (a .bytes); lines = now (a .lines); pointers = now (a .pointers); store = now (a .store) }) es (a .s) n) (a .signed) (a .a) (a .p) (c .before .before .before .before .before .before .before .before .before .before .before .before .before .before .before .before .before .before .before .if1 .taken) f), c .before .before .before .before .before .before .before .before .before .before .load-fill .ensures .1)
 
--- src/lib.rt:360:9
 load-uncached-requires : tie.Need-load-uncached-requires
 load-uncached-requires c κs = search needs
 
--- src/lib.rt:360:9
 same-length-6 : tie.Need-same-length-6
 same-length-6 c = search needs
 
--- src/lib.rt:360:9
 same-length-7 : tie.Need-same-length-7
 same-length-7 c = search needs
 
--- src/lib.rt:360:9
 returns-2 : tie.Need-returns-2
 returns-2 c = let a = c .before .before .before .before .before .before .before .before .before .before .before .before .before .before .before .before .before .before .before .args in
     let f : fills (a .s .cp15 .registers) (a .p) ≡ false = sym (c .before .before .before .before .before .before .before .before .before .fills .ensures) ∙ c .before .before .before .before .before .before .before .before .if2 .left in
     (λ es n. c .before .before .before .before .load-uncached .ensures .0 (now (a .lines)) (now (a .pointers)) (now (a .store)) es n ∙ sym (miss-uncached (machineOf (record { memory = now (a .memory); words = now (a .words); bytes = now (a .bytes); lines = now (a .lines); pointers = now (a .pointers); store = now (a .store) }) es (a .s) n) (a .signed) (a .a) (a .p) (c .before .before .before .before .before .before .before .before .before .before .if1 .taken) f), c .before .before .before .before .load-uncached .ensures .1)
 
--- src/lib.rt:362:5
 load-outside-requires : tie.Need-load-outside-requires
 load-outside-requires c κs = search needs
 
--- src/lib.rt:324:1
 returns-3 : tie.Need-returns-3
 returns-3 c = let a = c .before .before .before .before .before .before .before .before .before .before .args in
     (λ es n. c .load-outside .ensures (record { memory = now (a .memory); words = now (a .words); bytes = now (a .bytes); lines = now (a .lines); pointers = now (a .pointers); store = now (a .store) }) es n (a .signed) (c .before .if1 .left), c .before .before .before .before .before .before .before .before .before .before .pre .0 .fits .bytes-long)

@@ -14,34 +14,27 @@ use Rattle.translation.proofs.fill_status.Reads as fill-status-reads
 use Rattle.translation.proofs.fills.Reads as fills-reads
 use Rattle.translation.proofs.other_status.Reads as other-status-reads
 
--- src/lib.rt:317:8
 fills-requires : tie.Need-fills-requires
 fills-requires c κs = search needs
 
--- src/lib.rt:318:27
 fill-status-requires : tie.Need-fill-status-requires
 fill-status-requires c κs = search needs
 
--- src/lib.rt:318:9
 faulted-requires : tie.Need-faulted-requires
 faulted-requires c κs = search needs
 
--- src/lib.rt:318:9
 returns : tie.Need-returns
 unfolding loadMiss
 returns c = let a = c .before .before .before .before .before .before .args in
     let f : fills (a .s .cp15 .registers) (a .p) ≡ true = sym (c .before .before .before .fills .ensures) ∙ c .before .before .if1 .taken in
     λ l es n g h. rw (c .faulted .ensures l es n, c .before .fill-status .ensures, le-ltb (a .p .address .0) (length (l .memory)) h, f)
 
--- src/lib.rt:320:16
 other-status-requires : tie.Need-other-status-requires
 other-status-requires c κs = search needs
 
--- src/lib.rt:320:5
 faulted-requires-2 : tie.Need-faulted-requires-2
 faulted-requires-2 c κs = search needs
 
--- src/lib.rt:309:1
 returns-2 : tie.Need-returns-2
 unfolding loadMiss
 returns-2 c = let a = c .before .before .before .before .before .before .args in

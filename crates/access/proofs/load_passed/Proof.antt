@@ -12,65 +12,50 @@ use Rattle.access.proofs.load_miss.Reads as load-miss-reads
 use Rattle.cache.proofs.find.Reads as find-reads
 use Rattle.translation.proofs.cleared.Reads as cleared-reads
 
--- src/lib.rt:385:9
 cleared-requires : tie.Need-cleared-requires
 cleared-requires c κs = search needs
 
--- src/lib.rt:386:9
 find-requires : tie.Need-find-requires
 find-requires c κs = search needs
 
--- src/lib.rt:388:20
 enum-known-found : tie.Need-enum-known-found
 enum-known-found c = search needs
 
--- src/lib.rt:388:26
 load-hit-requires : tie.Need-load-hit-requires
 load-hit-requires c κs = let k = c .before .before .before .before .before .before .before .before .before .before .before .before .pre in (k .0 .store-long, find-low (now (c .before .before .before .before .before .before .before .before .before .before .before .before .args .lines)) _ _ (k .0 .lines-long) (sym (c .before .before .before .before .find .ensures) ∙ c .before .before .found .given .1), k .1, k .0 .hits)
 
--- src/lib.rt:390:13
 enum-told : tie.Need-enum-told
 enum-told c = search needs
 
--- src/lib.rt:389:28
 load-miss-requires : tie.Need-load-miss-requires
 load-miss-requires c κs = search needs
 
--- src/lib.rt:366:1
 same-length : tie.Need-same-length
 same-length c = search needs
 
--- src/lib.rt:366:1
 same-length-2 : tie.Need-same-length-2
 same-length-2 c = search needs
 
--- src/lib.rt:366:1
 returns : tie.Need-returns
 returns c = let a = c .before .before .before .before .before .before .before .before .before .before .before .before .before .args in
     let l : Lists = record { memory = now (a .memory); words = now (a .words); bytes = now (a .bytes); lines = now (a .lines); pointers = now (a .pointers); store = now (a .store) } in
     (λ es n. c .load-hit .ensures l es n refl ∙ sym (found-hit (machineOf l es (a .s) n) (a .signed) (a .a) (a .p) _ _ (c .before .before .before .before .before .before .before .cleared .ensures) (sym (c .before .before .before .before .before .find .ensures) ∙ c .before .before .before .found .given .1)), c .before .before .before .before .before .before .before .before .before .before .before .before .before .pre .0 .fits .bytes-long)
 
--- src/lib.rt:366:1
 same-length-3 : tie.Need-same-length-3
 same-length-3 c = search needs
 
--- src/lib.rt:366:1
 same-length-4 : tie.Need-same-length-4
 same-length-4 c = search needs
 
--- src/lib.rt:366:1
 same-length-5 : tie.Need-same-length-5
 same-length-5 c = search needs
 
--- src/lib.rt:366:1
 same-length-6 : tie.Need-same-length-6
 same-length-6 c = search needs
 
--- src/lib.rt:366:1
 same-length-7 : tie.Need-same-length-7
 same-length-7 c = search needs
 
--- src/lib.rt:366:1
 returns-2 : tie.Need-returns-2
 returns-2 c = let a = c .before .before .before .before .before .before .before .before .before .before .before .before .before .before .before .before .before .before .before .before .before .before .before .before .before .before .before .args in
     let l : Lists = record { memory = now (a .memory); words = now (a .words); bytes = now (a .bytes); lines = now (a .lines); pointers = now (a .pointers); store = now (a .store) } in

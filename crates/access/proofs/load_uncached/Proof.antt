@@ -15,37 +15,29 @@ use Rattle.buffer.proofs.ready_access.Reads as ready-access-reads
 use Rattle.translation.proofs.load_answer.Reads as load-answer-reads
 use Rattle.words.proofs.load.Reads as load-reads
 
--- src/lib.rt:295:9
 ready-access-requires : tie.Need-ready-access-requires
 ready-access-requires c κs = let k = c .before .before .before .before .before .before .pre in (k .0, k .2, in-block (c .before .before .before .before .before .before .args .a) (c .before .before .before .before .before .before .args .p .address .0) (k .2) (k .3 .within))
 
--- src/lib.rt:296:33
 cast-load : tie.Need-cast-load
 cast-load c = search needs
 
--- src/lib.rt:296:9
 load-requires : tie.Need-load-requires
 load-requires c κs = let k = c .before .before .before .before .before .before .before .before .before .before .before .before .before .pre in
     let h = access-fits (c .before .before .before .before .before .before .before .before .before .before .before .before .before .args .a) (c .before .before .before .before .before .before .before .before .before .before .before .before .before .args .p .address .0) _ (k .2) (k .3 .within) (k .4) (k .1) in
     (k .2, omega (arith, h, c .before .before .before .before .before .memory .given))
 
--- src/lib.rt:298:16
 with-used-requires : tie.Need-with-used-requires
 with-used-requires c κs = search needs
 
--- src/lib.rt:299:17
 load-answer-requires : tie.Need-load-answer-requires
 load-answer-requires c κs = search needs
 
--- src/lib.rt:278:1
 same-length : tie.Need-same-length
 same-length c = search needs
 
--- src/lib.rt:278:1
 same-length-2 : tie.Need-same-length-2
 same-length-2 c = search needs
 
--- src/lib.rt:278:1
 returns : tie.Need-returns
 returns c = let a = c .before .before .before .before .before .before .before .before .before .before .before .before .before .before .before .before .args in
     (λ ls ps st es n. uncached-left es (a .s) n (a .signed) (a .a) (record { memory = now (a .memory); words = now (a .words); bytes = now (a .bytes); lines = ls; pointers = ps; store = st }) _ (a .p) _ _ _ _ (c .before .before .before .before .before .before .before .before .before .ready-access .ensures) refl refl refl (c .before .before .load .ensures .value) (c .before .with-used .ensures) (c .load-answer .ensures), c .before .before .before .before .before .before .before .before .before .ready-access .ensures .fits .bytes-long)

@@ -7,47 +7,36 @@ use Rattle.access.proofs.place.Lts as lts
 use Rattle.tlb.proofs.next.Reads as next-reads
 use Rattle.tlb.proofs.place.Reads as place-reads
 
--- src/lib.rt:76:30
 enum-told : tie.Need-enum-told
 enum-told c = search needs
 
--- src/lib.rt:77:27
 enum-known-t : tie.Need-enum-known-t
 enum-known-t c = search needs
 
--- src/lib.rt:78:29
 enum-known-t-2 : tie.Need-enum-known-t-2
 enum-known-t-2 c = search needs
 
--- src/lib.rt:79:13
 place-requires : tie.Need-place-requires
 place-requires c κs = (c .before .before .before .before .before .pre .0, c .before .before .before .before .before .pre .1, rw (c .before .before .t2 .given .1) at (c .before .before .before .before .before .pre .2))
 
--- src/lib.rt:80:13
 next-requires : tie.Need-next-requires
 next-requires c κs = search needs
 
--- src/lib.rt:82:29
 enum-known-t-3 : tie.Need-enum-known-t-3
 enum-known-t-3 c = search needs
 
--- src/lib.rt:69:1
 returns : tie.Need-returns
 returns c = search needs
 
--- src/lib.rt:69:1
 returns-2 : tie.Need-returns-2
 returns-2 c = search needs
 
--- src/lib.rt:69:1
 same-length : tie.Need-same-length
 same-length c = search needs
 
--- src/lib.rt:69:1
 returns-3 : tie.Need-returns-3
 returns-3 c = rw (c .before .before .before .before .before .before .t2 .given .1) (c .before .before .before .place .ensures, c .next .ensures .0)
 
--- src/lib.rt:69:1
 returns-4 : tie.Need-returns-4
 returns-4 c = search needs
 

@@ -11,26 +11,21 @@ use Rattle.access.proofs.reach.Lts as lts
 use Rattle.access.proofs.reach_mapped.Reads as reach-mapped-reads
 use Rattle.translation.proofs.faults_alignment.Reads as faults-alignment-reads
 
--- src/lib.rt:153:8
 faults-alignment-requires : tie.Need-faults-alignment-requires
 faults-alignment-requires c κs = search needs
 
--- src/lib.rt:154:9
 returns : tie.Need-returns
 unfolding reach
 returns c = let a = c .before .before .before .before .before .args in
     let f : alignmentFaults (a .s .cp15 .registers) (a .a) ≡ true = sym (c .before .faults-alignment .ensures) ∙ c .if1 .taken in
     (λ l n e. rw f, record { ranged = omega arith; used = refl; hits = refl; fills = refl; halves = refl })
 
--- src/lib.rt:159:5
 reach-mapped-requires : tie.Need-reach-mapped-requires
 reach-mapped-requires c κs = search needs
 
--- src/lib.rt:139:1
 same-length : tie.Need-same-length
 same-length c = search needs
 
--- src/lib.rt:139:1
 returns-2 : tie.Need-returns-2
 unfolding reach
 returns-2 c = let a = c .before .before .before .before .before .before .before .before .before .args in

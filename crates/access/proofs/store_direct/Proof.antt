@@ -12,37 +12,29 @@ use Rattle.access.proofs.with_used.Reads as with-used-reads
 use Rattle.buffer.proofs.drain.Reads as drain-reads
 use Rattle.words.proofs.store.Reads as store-reads
 
--- src/lib.rt:503:14
 drain-requires : tie.Need-drain-requires
 drain-requires c κs = search needs
 
--- src/lib.rt:504:26
 cast-store : tie.Need-cast-store
 cast-store c = search needs
 
--- src/lib.rt:504:5
 store-requires : tie.Need-store-requires
 store-requires c κs = let k = c .before .before .before .before .before .before .before .before .before .before .before .before .before .pre in
     let h = access-fits (c .before .before .before .before .before .before .before .before .before .before .before .before .before .args .a) (c .before .before .before .before .before .before .before .before .before .before .before .before .before .args .p .address .0) _ (k .2) (k .3 .within) (k .4) (k .1) in
     (k .2, omega (arith, h, c .before .before .before .before .before .memory .given))
 
--- src/lib.rt:505:12
 with-used-requires : tie.Need-with-used-requires
 with-used-requires c κs = search needs
 
--- src/lib.rt:505:5
 stored-requires : tie.Need-stored-requires
 stored-requires c κs = search needs
 
--- src/lib.rt:485:1
 same-length : tie.Need-same-length
 same-length c = search needs
 
--- src/lib.rt:485:1
 same-length-2 : tie.Need-same-length-2
 same-length-2 c = search needs
 
--- src/lib.rt:485:1
 returns : tie.Need-returns
 returns c = let a = c .before .before .before .before .before .before .before .before .before .before .before .before .before .before .before .before .before .before .args in
     (λ ls ps st es n. direct-left es (a .s) n (a .a) (a .v) (record { memory = now (a .memory); words = now (a .words); bytes = now (a .bytes); lines = ls; pointers = ps; store = st }) _ (a .p) _ (c .before .before .before .before .store .last .0) (c .before .before .before .before .before .before .before .before .before .before .before .drain .last .0) (c .before .before .before .before .before .before .before .before .before .before .before .drain .last .1 .0) (c .before .before .before .before .before .before .before .before .before .before .before .drain .result) (c .before .before .before .before .before .before .before .before .before .before .before .drain .ensures) (c .before .before .before .before .store .ensures) (c .before .with-used .ensures) (c .stored .ensures), c .before .before .before .before .before .before .before .before .before .before .before .drain .ensures .fits .bytes-long)

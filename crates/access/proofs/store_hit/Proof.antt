@@ -11,31 +11,24 @@ use Rattle.access.proofs.stored.Reads as stored-reads
 use Rattle.cache.proofs.store.Reads as store-reads
 use Rattle.translation.proofs.cleared.Reads as cleared-reads
 
--- src/lib.rt:479:9
 cleared-requires : tie.Need-cleared-requires
 cleared-requires c κs = search needs
 
--- src/lib.rt:480:5
 store-requires : tie.Need-store-requires
 store-requires c κs = let k = c .before .before .before .before .before .pre in (k .0, k .1, k .2, k .3, rw (c .before .before .cleared .ensures) (in-line (c .before .before .before .before .before .args .a) (k .3)))
 
--- src/lib.rt:481:12
 hit-requires : tie.Need-hit-requires
 hit-requires c κs = search needs
 
--- src/lib.rt:481:5
 stored-requires : tie.Need-stored-requires
 stored-requires c κs = search needs
 
--- src/lib.rt:472:1
 same-length : tie.Need-same-length
 same-length c = search needs
 
--- src/lib.rt:472:1
 same-length-2 : tie.Need-same-length-2
 same-length-2 c = search needs
 
--- src/lib.rt:472:1
 returns : tie.Need-returns
 returns c = let a = c .before .before .before .before .before .before .before .before .before .before .before .before .args in
     λ m ws bs ps es n. store-hit-left es (a .s) n (a .a) (a .v) (record { memory = m; words = ws; bytes = bs; lines = now (a .lines); pointers = ps; store = now (a .store) }) _ (c .before .before .before .before .before .before .store .last .0) (c .before .before .before .before .before .before .store .last .1 .0) (a .i) _ _ (c .before .before .before .before .before .before .before .before .before .cleared .ensures) (c .before .before .before .before .before .before .store .ensures ps) (c .before .hit .ensures) (c .stored .ensures)

@@ -14,55 +14,43 @@ use Rattle.access.proofs.store_direct.Reads as store-direct-reads
 use Rattle.access.proofs.store_outside.Reads as store-outside-reads
 use Rattle.translation.proofs.buffers.Reads as buffers-reads
 
--- src/lib.rt:563:9
 cast-if1 : tie.Need-cast-if1
 cast-if1 c = search needs
 
--- src/lib.rt:564:12
 buffers-requires : tie.Need-buffers-requires
 buffers-requires c κs = search needs
 
--- src/lib.rt:565:13
 store-buffered-requires : tie.Need-store-buffered-requires
 store-buffered-requires c κs = search needs
 
--- src/lib.rt:565:13
 same-length : tie.Need-same-length
 same-length c = search needs
 
--- src/lib.rt:565:13
 same-length-2 : tie.Need-same-length-2
 same-length-2 c = search needs
 
--- src/lib.rt:565:13
 returns : tie.Need-returns
 returns c = let a = c .before .before .before .before .before .before .before .before .before .before .before .before .before .before .before .before .args in
     let f : buffers (a .s .cp15 .registers) (a .p) ≡ true = sym (c .before .before .before .before .before .before .before .before .before .buffers .ensures) ∙ c .before .before .before .before .before .before .before .before .if2 .taken in
     (λ ls ps st es n. c .before .before .before .before .store-buffered .ensures .0 ls ps st es n ∙ sym (miss-buffered (machineOf (record { memory = now (a .memory); words = now (a .words); bytes = now (a .bytes); lines = ls; pointers = ps; store = st }) es (a .s) n) (a .a) (a .v) (a .p) f), c .before .before .before .before .store-buffered .ensures .1)
 
--- src/lib.rt:567:9
 store-direct-requires : tie.Need-store-direct-requires
 store-direct-requires c κs = search needs
 
--- src/lib.rt:567:9
 same-length-3 : tie.Need-same-length-3
 same-length-3 c = search needs
 
--- src/lib.rt:567:9
 same-length-4 : tie.Need-same-length-4
 same-length-4 c = search needs
 
--- src/lib.rt:567:9
 returns-2 : tie.Need-returns-2
 returns-2 c = let a = c .before .before .before .before .before .before .before .before .before .before .before .before .before .before .before .before .args in
     let f : buffers (a .s .cp15 .registers) (a .p) ≡ false = sym (c .before .before .before .before .before .before .before .before .before .buffers .ensures) ∙ c .before .before .before .before .before .before .before .before .if2 .left in
     (λ ls ps st es n. c .before .before .before .before .store-direct .ensures .0 ls ps st es n ∙ sym (miss-direct (machineOf (record { memory = now (a .memory); words = now (a .words); bytes = now (a .bytes); lines = ls; pointers = ps; store = st }) es (a .s) n) (a .a) (a .v) (a .p) (c .before .before .before .before .before .before .before .before .before .before .if1 .taken) f), c .before .before .before .before .store-direct .ensures .1)
 
--- src/lib.rt:569:5
 store-outside-requires : tie.Need-store-outside-requires
 store-outside-requires c κs = search needs
 
--- src/lib.rt:545:1
 returns-3 : tie.Need-returns-3
 returns-3 c = let a = c .before .before .before .before .before .before .before .args in
     (λ ls ps st es n. c .store-outside .ensures (record { memory = now (a .memory); words = now (a .words); bytes = now (a .bytes); lines = ls; pointers = ps; store = st }) es n (a .v) (c .before .if1 .left), c .before .before .before .before .before .before .before .pre .0 .bytes-long)

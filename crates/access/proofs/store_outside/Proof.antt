@@ -13,29 +13,23 @@ use Rattle.access.proofs.stored.Reads as stored-reads
 use Rattle.translation.proofs.buffers.Reads as buffers-reads
 use Rattle.translation.proofs.other_status.Reads as other-status-reads
 
--- src/lib.rt:538:8
 buffers-requires : tie.Need-buffers-requires
 buffers-requires c κs = search needs
 
--- src/lib.rt:539:9
 stored-requires : tie.Need-stored-requires
 stored-requires c κs = search needs
 
--- src/lib.rt:539:9
 returns : tie.Need-returns
 returns c = let a = c .before .before .before .before .before .args in
     let f : buffers (a .s .cp15 .registers) (a .p) ≡ true = sym (c .before .before .buffers .ensures) ∙ c .before .if1 .taken in
     λ l es n v h. rw (c .stored .ensures, miss-dropped (machineOf l es (a .s) n) (a .a) v (a .p) h f)
 
--- src/lib.rt:541:16
 other-status-requires : tie.Need-other-status-requires
 other-status-requires c κs = search needs
 
--- src/lib.rt:541:5
 faulted-requires : tie.Need-faulted-requires
 faulted-requires c κs = search needs
 
--- src/lib.rt:530:1
 returns-2 : tie.Need-returns-2
 returns-2 c = let a = c .before .before .before .before .before .before .args in
     let f : buffers (a .s .cp15 .registers) (a .p) ≡ false = sym (c .before .before .before .buffers .ensures) ∙ c .before .before .if1 .left in

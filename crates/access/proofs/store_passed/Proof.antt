@@ -13,56 +13,43 @@ use Rattle.access.proofs.store_miss.Reads as store-miss-reads
 use Rattle.cache.proofs.find.Reads as find-reads
 use Rattle.translation.proofs.cleared.Reads as cleared-reads
 
--- src/lib.rt:591:9
 cleared-requires : tie.Need-cleared-requires
 cleared-requires c κs = search needs
 
--- src/lib.rt:592:9
 find-requires : tie.Need-find-requires
 find-requires c κs = search needs
 
--- src/lib.rt:594:20
 enum-known-found : tie.Need-enum-known-found
 enum-known-found c = search needs
 
--- src/lib.rt:594:26
 store-hit-requires : tie.Need-store-hit-requires
 store-hit-requires c κs = let k = c .before .before .before .before .before .before .before .before .before .before .before .before .pre in (k .1, k .2, find-low (now (c .before .before .before .before .before .before .before .before .before .before .before .before .args .lines)) _ _ (k .1) (sym (c .before .before .before .before .before .find .ensures) ∙ c .before .before .before .found .given .1), k .5, k .4)
 
--- src/lib.rt:595:39
 enum-told : tie.Need-enum-told
 enum-told c = search needs
 
--- src/lib.rt:595:28
 store-miss-requires : tie.Need-store-miss-requires
 store-miss-requires c κs = search needs
 
--- src/lib.rt:573:1
 same-length : tie.Need-same-length
 same-length c = search needs
 
--- src/lib.rt:573:1
 same-length-2 : tie.Need-same-length-2
 same-length-2 c = search needs
 
--- src/lib.rt:573:1
 returns : tie.Need-returns
 returns c = let a = c .before .before .before .before .before .before .before .before .before .before .before .before .before .before .before .before .before .args in
     (λ ps es n. c .before .before .before .before .store-hit .ensures (now (a .memory)) (now (a .words)) (now (a .bytes)) ps es n ∙ sym (store-found (machineOf (record { memory = now (a .memory); words = now (a .words); bytes = now (a .bytes); lines = now (a .lines); pointers = ps; store = now (a .store) }) es (a .s) n) (a .a) (a .v) (a .p) _ _ (c .before .before .before .before .before .before .before .before .before .before .before .before .cleared .ensures) (sym (c .before .before .before .before .before .before .before .before .before .before .find .ensures) ∙ c .before .before .before .before .before .before .before .before .found .given .1)), c .before .before .before .before .before .before .before .before .before .before .before .before .before .before .before .before .before .pre .0 .bytes-long)
 
--- src/lib.rt:573:1
 same-length-3 : tie.Need-same-length-3
 same-length-3 c = search needs
 
--- src/lib.rt:573:1
 same-length-4 : tie.Need-same-length-4
 same-length-4 c = search needs
 
--- src/lib.rt:573:1
 same-length-5 : tie.Need-same-length-5
 same-length-5 c = search needs
 
--- src/lib.rt:573:1
 returns-2 : tie.Need-returns-2
 returns-2 c = let a = c .before .before .before .before .before .before .before .before .before .before .before .before .before .before .before .before .before .args in
     (λ ps es n. c .before .before .before .before .store-miss .ensures .0 (now (a .lines)) ps (now (a .store)) es n ∙ sym (store-none (machineOf (record { memory = now (a .memory); words = now (a .words); bytes = now (a .bytes); lines = now (a .lines); pointers = ps; store = now (a .store) }) es (a .s) n) (a .a) (a .v) (a .p) _ (c .before .before .before .before .before .before .before .before .before .before .before .before .cleared .ensures) (sym (c .before .before .before .before .before .before .before .before .before .before .find .ensures) ∙ c .before .before .before .before .before .before .before .before .enum-told .given .1)), c .before .before .before .before .store-miss .ensures .1)

@@ -16,43 +16,33 @@ use Rattle.translation.proofs.of_walk.Reads as of-walk-reads
 use Rattle.values.proofs.mmu.Reads as mmu-reads
 use Rattle.walk.proofs.walk.Reads as walk-reads
 
--- src/lib.rt:57:8
 mmu-requires : tie.Need-mmu-requires
 mmu-requires c κs = search needs
 
--- src/lib.rt:58:13
 lookup-requires : tie.Need-lookup-requires
 lookup-requires c κs = search needs
 
--- src/lib.rt:60:24
 enum-known-found : tie.Need-enum-known-found
 enum-known-found c = search needs
 
--- src/lib.rt:60:62
 mul-entry-of : tie.Need-mul-entry-of
 mul-entry-of c = let h = lookup-low (now (c .before .before .before .before .before .before .before .before .args .entries)) (c .before .before .before .before .before .before .before .before .args .va) _ (c .before .before .before .before .before .before .before .before .pre .0) (sym (c .before .before .before .lookup .ensures) ∙ c .before .found .given .1) in omega (arith, h)
 
--- src/lib.rt:60:62
 shared-slice-read-entry-of : tie.Need-shared-slice-read-entry-of
 shared-slice-read-entry-of c = let h = lookup-low (now (c .before .before .before .before .before .before .before .before .before .args .entries)) (c .before .before .before .before .before .before .before .before .before .args .va) _ (c .before .before .before .before .before .before .before .before .before .pre .0) (sym (c .before .before .before .before .lookup .ensures) ∙ c .before .before .found .given .1) in omega (arith, h, c .before .before .before .before .before .before .before .before .before .pre .0)
 
--- src/lib.rt:60:48
 entry-of-requires : tie.Need-entry-of-requires
 entry-of-requires c κs = search needs
 
--- src/lib.rt:61:53
 enum-told : tie.Need-enum-told
 enum-told c = search needs
 
--- src/lib.rt:61:53
 walk-requires : tie.Need-walk-requires
 walk-requires c κs = search needs
 
--- src/lib.rt:61:32
 of-walk-requires : tie.Need-of-walk-requires
 of-walk-requires c κs = search needs
 
--- src/lib.rt:53:1
 returns : tie.Need-returns
 returns c = let a = c .before .before .before .before .before .before .before .before .before .before .args in
     let ws = now (a .entries) in
@@ -63,7 +53,6 @@ returns c = let a = c .before .before .before .before .before .before .before .b
       ranged = subst InRange (sym (c .entry-of .ensures)) (c .before .before .before .before .before .before .before .before .before .before .pre .1 _ h);
     }
 
--- src/lib.rt:53:1
 returns-2 : tie.Need-returns-2
 returns-2 c = let a = c .before .before .before .before .before .before .before .before .before .args in
     record {
@@ -71,7 +60,6 @@ returns-2 c = let a = c .before .before .before .before .before .before .before 
       ranged = c .of-walk .ensures .ranged;
     }
 
--- src/lib.rt:53:1
 returns-3 : tie.Need-returns-3
 returns-3 c = let a = c .before .before .before .before .args in
     record {

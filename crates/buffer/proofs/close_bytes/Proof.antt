@@ -17,52 +17,40 @@ Inv-loop bytes₀ i₀ bytes i = (i ≤ 7) × (length bytes ≡ 8) × Toward (dr
 abbrev μ-loop : tie.MeasureT-loop
 μ-loop bytes₀ i₀ bytes i = 7 - i
 
--- src/lib.rt:93:5
 loop-holds : tie.Need-loop-holds Inv-loop μ-loop
 loop-holds c = let w = now (c .args .bytes) in (search needs, search needs, toward-start (drop 1 w) w)
 
--- src/lib.rt:94:26
 add-bytes : tie.Need-add-bytes Inv-loop μ-loop
 add-bytes c = search needs
 
--- src/lib.rt:94:20
 mul-bytes : tie.Need-mul-bytes Inv-loop μ-loop
 mul-bytes c = search needs
 
--- src/lib.rt:94:20
 slice-copy-out-bytes : tie.Need-slice-copy-out-bytes Inv-loop μ-loop
 slice-copy-out-bytes c = omega arith
 
--- src/lib.rt:94:9
 mul-t8 : tie.Need-mul-t8 Inv-loop μ-loop
 mul-t8 c = search needs
 
--- src/lib.rt:94:9
 slice-set-from-bytes : tie.Need-slice-set-from-bytes Inv-loop μ-loop
 slice-set-from-bytes c = omega arith
 
--- src/lib.rt:95:9
 add-i : tie.Need-add-i Inv-loop μ-loop
 add-i c = search needs
 
--- src/lib.rt:93:5
 loop-less : tie.Need-loop-less Inv-loop μ-loop
 loop-less c = search needs
 
--- src/lib.rt:93:5
 loop-again : tie.Need-loop-again Inv-loop μ-loop
 loop-again c = let l = c .before .before .loop in
     (omega arith, simp length-set (l .inv .1), close-step (now (c .before .before .before .args .bytes)) (l .bytes) (l .i) (l .inv .2) _ (c .before .loop-test .taken) (l .inv .1))
 
--- src/lib.rt:97:5
 slice-set-from-bytes-2 : tie.Need-slice-set-from-bytes-2 Inv-loop μ-loop
 slice-set-from-bytes-2 c = omega arith
 
--- src/lib.rt:88:1
 same-length : tie.Need-same-length Inv-loop μ-loop
 same-length c = search needs
 
--- src/lib.rt:88:1
 returns : tie.Need-returns Inv-loop μ-loop
 returns c = let l = c .before .loop in
     close-end (now (c .before .before .args .bytes)) (l .bytes) (l .i) (l .inv .2) (replicate 16 0) (c .loop-test .left) (l .inv .0) (l .inv .1)

@@ -17,52 +17,40 @@ Inv-loop words₀ i₀ words i = (i ≤ 7) × (length words ≡ 8) × Toward (dr
 abbrev μ-loop : tie.MeasureT-loop
 μ-loop words₀ i₀ words i = 7 - i
 
--- src/lib.rt:80:5
 loop-holds : tie.Need-loop-holds Inv-loop μ-loop
 loop-holds c = let w = now (c .args .words) in (search needs, search needs, toward-start (drop 1 w) w)
 
--- src/lib.rt:81:26
 add-words : tie.Need-add-words Inv-loop μ-loop
 add-words c = search needs
 
--- src/lib.rt:81:20
 mul-words : tie.Need-mul-words Inv-loop μ-loop
 mul-words c = search needs
 
--- src/lib.rt:81:20
 slice-read-words : tie.Need-slice-read-words Inv-loop μ-loop
 slice-read-words c = omega arith
 
--- src/lib.rt:81:9
 mul-words-2 : tie.Need-mul-words-2 Inv-loop μ-loop
 mul-words-2 c = search needs
 
--- src/lib.rt:81:9
 slice-write-words : tie.Need-slice-write-words Inv-loop μ-loop
 slice-write-words c = omega arith
 
--- src/lib.rt:82:9
 add-i : tie.Need-add-i Inv-loop μ-loop
 add-i c = search needs
 
--- src/lib.rt:80:5
 loop-less : tie.Need-loop-less Inv-loop μ-loop
 loop-less c = search needs
 
--- src/lib.rt:80:5
 loop-again : tie.Need-loop-again Inv-loop μ-loop
 loop-again c = let l = c .before .before .loop in
     (omega arith, simp length-set (l .inv .1), close-step (now (c .before .before .before .args .words)) (l .words) (l .i) (l .inv .2) 0 (c .before .loop-test .taken) (l .inv .1))
 
--- src/lib.rt:84:5
 slice-write-words-2 : tie.Need-slice-write-words-2 Inv-loop μ-loop
 slice-write-words-2 c = omega arith
 
--- src/lib.rt:75:1
 same-length : tie.Need-same-length Inv-loop μ-loop
 same-length c = search needs
 
--- src/lib.rt:75:1
 returns : tie.Need-returns Inv-loop μ-loop
 returns c = let l = c .before .loop in
     close-end (now (c .before .before .args .words)) (l .words) (l .i) (l .inv .2) 0 (c .loop-test .left) (l .inv .0) (l .inv .1)

@@ -20,27 +20,21 @@ Inv-loop memory₀ words₀ used left₀ n₀ memory words left n = Fits memory 
 abbrev μ-loop : tie.MeasureT-loop
 μ-loop memory₀ words₀ used left₀ n₀ memory words left n = n
 
--- src/lib.rt:150:5
 loop-holds : tie.Need-loop-holds Inv-loop μ-loop
 loop-holds c = (c .before .before .pre, refl, refl, refl)
 
--- src/lib.rt:151:38
 slice-aggregate-oldest-leaves : tie.Need-slice-aggregate-oldest-leaves Inv-loop μ-loop
 slice-aggregate-oldest-leaves c = search needs
 
--- src/lib.rt:151:9
 oldest-leaves-requires : tie.Need-oldest-leaves-requires Inv-loop μ-loop
 oldest-leaves-requires c κs = (c .before .before .before .before .loop .inv .0, c .before .before .before .loop-test .taken)
 
--- src/lib.rt:152:9
 sub-n : tie.Need-sub-n Inv-loop μ-loop
 sub-n c = search needs
 
--- src/lib.rt:150:5
 loop-less : tie.Need-loop-less Inv-loop μ-loop
 loop-less c = search needs
 
--- src/lib.rt:150:5
 loop-again : tie.Need-loop-again Inv-loop μ-loop
 loop-again c = let a = c .before .before .before .before .before .before .before .before .before .before .before .before .before .args in
     let l = c .before .before .before .before .before .before .before .before .before .before .loop in
@@ -52,15 +46,12 @@ loop-again c = let a = c .before .before .before .before .before .before .before
       o .kept .1 .0 ∙ l .inv .3,
     )
 
--- src/lib.rt:142:1
 same-length : tie.Need-same-length Inv-loop μ-loop
 same-length c = c .before .loop .inv .2
 
--- src/lib.rt:142:1
 same-length-2 : tie.Need-same-length-2 Inv-loop μ-loop
 same-length-2 c = c .before .loop .inv .3
 
--- src/lib.rt:142:1
 returns : tie.Need-returns Inv-loop μ-loop
 unfolding drained
 returns c = let a = c .before .before .before .before .args in

@@ -21,44 +21,35 @@ Inv-loop words used pa width i₀ i = (i ≤ used) × ((bytes : List (List ℕ))
 abbrev μ-loop : tie.MeasureT-loop
 μ-loop words used pa width i₀ i = used - i
 
--- src/lib.rt:283:5
 loop-holds : tie.Need-loop-holds Inv-loop μ-loop
 unfolding holds
 loop-holds c = (search needs, λ bytes h. refl)
 
--- src/lib.rt:284:25
 mul-meets-access : tie.Need-mul-meets-access Inv-loop μ-loop
 mul-meets-access c = search needs
 
--- src/lib.rt:284:25
 shared-slice-read-meets-access : tie.Need-shared-slice-read-meets-access Inv-loop μ-loop
 shared-slice-read-meets-access c = search needs
 
--- src/lib.rt:284:12
 meets-access-requires : tie.Need-meets-access-requires Inv-loop μ-loop
 meets-access-requires c κs = (c .before .before .before .before .pre .2, c .before .before .before .before .pre .3)
 
--- src/lib.rt:285:13
 returns : tie.Need-returns Inv-loop μ-loop
 returns c = let a = c .before .before .before .before .before .before .args in
     let l = c .before .before .before .before .loop in
     λ bytes h. sym (hold-hit (a .width) (a .pa .0) (now (a .words)) bytes (a .used) (c .before .before .before .before .before .before .pre .0) h (c .before .before .before .before .before .before .pre .1) (l .i) (c .before .before .before .loop-test .taken) (sym (c .before .meets-access .ensures _) ∙ c .if1 .taken)) ∙ l .inv .1 bytes h
 
--- src/lib.rt:287:9
 add-i : tie.Need-add-i Inv-loop μ-loop
 add-i c = search needs
 
--- src/lib.rt:283:5
 loop-less : tie.Need-loop-less Inv-loop μ-loop
 loop-less c = search needs
 
--- src/lib.rt:283:5
 loop-again : tie.Need-loop-again Inv-loop μ-loop
 loop-again c = let a = c .before .before .before .before .before .before .args in
     let l = c .before .before .before .before .loop in
     (omega arith, λ bytes h. sym (hold-on (a .width) (a .pa .0) (now (a .words)) bytes (a .used) (c .before .before .before .before .before .before .pre .0) h (c .before .before .before .before .before .before .pre .1) (l .i) (c .before .before .before .loop-test .taken) (sym (c .before .meets-access .ensures _) ∙ c .if1 .left)) ∙ l .inv .1 bytes h)
 
--- src/lib.rt:278:1
 returns-2 : tie.Need-returns-2 Inv-loop μ-loop
 returns-2 c = let a = c .before .before .before .args in
     let l = c .before .loop in

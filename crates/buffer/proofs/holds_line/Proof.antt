@@ -21,44 +21,35 @@ Inv-loop words used frame i₀ i = (i ≤ used) × ((bytes : List (List ℕ)) �
 abbrev μ-loop : tie.MeasureT-loop
 μ-loop words used frame i₀ i = used - i
 
--- src/lib.rt:298:5
 loop-holds : tie.Need-loop-holds Inv-loop μ-loop
 unfolding holds
 loop-holds c = (search needs, λ bytes h. refl)
 
--- src/lib.rt:299:23
 mul-meets-line : tie.Need-mul-meets-line Inv-loop μ-loop
 mul-meets-line c = search needs
 
--- src/lib.rt:299:23
 shared-slice-read-meets-line : tie.Need-shared-slice-read-meets-line Inv-loop μ-loop
 shared-slice-read-meets-line c = search needs
 
--- src/lib.rt:299:12
 meets-line-requires : tie.Need-meets-line-requires Inv-loop μ-loop
 meets-line-requires c κs = search needs
 
--- src/lib.rt:300:13
 returns : tie.Need-returns Inv-loop μ-loop
 returns c = let a = c .before .before .before .before .before .before .args in
     let l = c .before .before .before .before .loop in
     λ bytes h. sym (hold-hit 32 (a .frame * 32) (now (a .words)) bytes (a .used) (c .before .before .before .before .before .before .pre .0) h (c .before .before .before .before .before .before .pre .1) (l .i) (c .before .before .before .loop-test .taken) (sym (c .before .meets-line .ensures _) ∙ c .if1 .taken)) ∙ l .inv .1 bytes h
 
--- src/lib.rt:302:9
 add-i : tie.Need-add-i Inv-loop μ-loop
 add-i c = search needs
 
--- src/lib.rt:298:5
 loop-less : tie.Need-loop-less Inv-loop μ-loop
 loop-less c = search needs
 
--- src/lib.rt:298:5
 loop-again : tie.Need-loop-again Inv-loop μ-loop
 loop-again c = let a = c .before .before .before .before .before .before .args in
     let l = c .before .before .before .before .loop in
     (omega arith, λ bytes h. sym (hold-on 32 (a .frame * 32) (now (a .words)) bytes (a .used) (c .before .before .before .before .before .before .pre .0) h (c .before .before .before .before .before .before .pre .1) (l .i) (c .before .before .before .loop-test .taken) (sym (c .before .meets-line .ensures _) ∙ c .if1 .left)) ∙ l .inv .1 bytes h)
 
--- src/lib.rt:293:1
 returns-2 : tie.Need-returns-2 Inv-loop μ-loop
 returns-2 c = let a = c .before .before .before .args in
     let l = c .before .loop in

@@ -20,32 +20,25 @@ Inv-loop memory₀ at mask bytes left₀ i₀ memory left i = (i ≤ 16) × (len
 abbrev μ-loop : tie.MeasureT-loop
 μ-loop memory₀ at mask bytes left₀ i₀ memory left i = 16 - i
 
--- src/lib.rt:21:5
 loop-holds : tie.Need-loop-holds Inv-loop μ-loop
 loop-holds c = let a = c .before .args in
     (search needs, refl, ap (λ (k : ℕ). laid (now (a .memory)) k (a .mask) (a .t4)) (add-zero (a .at)))
 
--- src/lib.rt:22:25
 add-lay-one : tie.Need-add-lay-one Inv-loop μ-loop
 add-lay-one c = omega (arith, c .before .before .loop .inv .1, c .before .before .before .before .pre)
 
--- src/lib.rt:22:39
 array-read-lay-one : tie.Need-array-read-lay-one Inv-loop μ-loop
 array-read-lay-one c = search needs
 
--- src/lib.rt:22:9
 lay-one-requires : tie.Need-lay-one-requires Inv-loop μ-loop
 lay-one-requires c κs = omega (arith, c .before .before .loop .inv .1, c .before .before .before .before .pre)
 
--- src/lib.rt:24:9
 add-i : tie.Need-add-i Inv-loop μ-loop
 add-i c = search needs
 
--- src/lib.rt:21:5
 loop-less : tie.Need-loop-less Inv-loop μ-loop
 loop-less c = search needs
 
--- src/lib.rt:21:5
 loop-again : tie.Need-loop-again Inv-loop μ-loop
 loop-again c = let a = c .before .before .before .before .before .before .before .args in
     let l = c .before .before .before .before .before .loop in
@@ -56,11 +49,9 @@ loop-again c = let a = c .before .before .before .before .before .before .before
           ∙ sym (lay-more (a .t4) (l .memory) (a .at) (l .left) (l .i) (omega arith)) ∙ l .inv .2,
     )
 
--- src/lib.rt:15:1
 same-length : tie.Need-same-length Inv-loop μ-loop
 same-length c = c .before .loop .inv .1
 
--- src/lib.rt:15:1
 returns : tie.Need-returns Inv-loop μ-loop
 returns c = let a = c .before .before .before .args in
     let l = c .before .loop in

@@ -5,19 +5,15 @@ use Rattle.buffer.proofs.lay_one.Tie as tie
 use Rattle.buffer.proofs.lay_one.Reads as reads
 use Rattle.buffer.proofs.lay_one.Lts as lts
 
--- src/lib.rt:34:9
 slice-write-memory : tie.Need-slice-write-memory
 slice-write-memory c = search needs
 
--- src/lib.rt:29:1
 same-length : tie.Need-same-length
 same-length c = search needs
 
--- src/lib.rt:29:1
 returns : tie.Need-returns
 returns c = rw (c .if1 .taken)
 
--- src/lib.rt:29:1
 returns-2 : tie.Need-returns-2
 returns-2 c = rw (ne-eqb _ _ (c .if1 .left))
 

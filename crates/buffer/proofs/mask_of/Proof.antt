@@ -7,31 +7,25 @@ use Rattle.buffer.proofs.mask_of.Tie as tie
 use Rattle.buffer.proofs.mask_of.Reads as reads
 use Rattle.buffer.proofs.mask_of.Lts as lts
 
--- src/lib.rt:173:16
 shl-result : tie.Need-shl-result
 shl-result c = search needs
 
--- src/lib.rt:173:9
 returns : tie.Need-returns
 returns c = let a = c .before .args in
     let s = shifted 15 (a .offset) 4096 (power-low (a .offset) 12 (omega (arith, c .before .pre .1, c .if1 .taken))) (omega arith) in
     (rw (c .if1 .taken) (s .0), s .1)
 
--- src/lib.rt:176:16
 shl-result-2 : tie.Need-shl-result-2
 shl-result-2 c = search needs
 
--- src/lib.rt:176:9
 returns-2 : tie.Need-returns-2
 returns-2 c = let a = c .before .before .args in
     let s = shifted 3 (a .offset) 16384 (power-low (a .offset) 14 (omega (arith, c .before .before .pre .1, c .if2 .taken))) (omega arith) in
     (rw (c .if2 .taken) (s .0), s .1)
 
--- src/lib.rt:178:5
 shl-result-3 : tie.Need-shl-result-3
 shl-result-3 c = search needs
 
--- src/lib.rt:168:1
 returns-3 : tie.Need-returns-3
 returns-3 c = let a = c .before .before .args in
     let e = is-one (a .width) (c .before .before .pre .0) (c .before .if1 .left) (c .if2 .left) in

@@ -8,34 +8,27 @@ use Rattle.buffer.proofs.meets_access.Tie as tie
 use Rattle.buffer.proofs.meets_access.Reads as reads
 use Rattle.buffer.proofs.meets_access.Lts as lts
 
--- src/lib.rt:254:26
 cast-if1 : tie.Need-cast-if1
 cast-if1 c = search needs
 
--- src/lib.rt:255:9
 returns : tie.Need-returns
 returns c = let a = c .before .before .args in
     λ b. sym (meets-away (slotOf (a .w) b) (a .width) (a .pa .0) (c .before .before .pre .1) (λ q. c .if1 .taken (sym q)))
 
--- src/lib.rt:257:37
 cast-left : tie.Need-cast-left
 cast-left c = search needs
 
--- src/lib.rt:257:16
 shr-left : tie.Need-shr-left
 shr-left c = search needs
 
--- src/lib.rt:259:9
 returns-2 : tie.Need-returns-2
 returns-2 c = let a = c .before .before .before .before .args in
     λ b. rw (c .if2 .taken) (sym (meets-here (slotOf (a .w) b) 4 (a .pa .0) (rw (c .if2 .taken) at (c .before .before .before .before .pre .1)) (sym (c .before .before .if1 .left))))
 
--- src/lib.rt:262:9
 returns-3 : tie.Need-returns-3
 returns-3 c = let a = c .before .before .before .before .before .args in
     λ b. rw (c .if3 .taken) (sym (meets-here (slotOf (a .w) b) 2 (a .pa .0) (rw (c .if3 .taken) at (c .before .before .before .before .before .pre .1)) (sym (c .before .before .before .if1 .left))))
 
--- src/lib.rt:250:1
 returns-4 : tie.Need-returns-4
 returns-4 c = let a = c .before .before .before .before .before .args in
     let e = is-one (a .width) (c .before .before .before .before .before .pre .0) (c .before .if2 .left) (c .if3 .left) in

@@ -10,12 +10,10 @@ use Rattle.buffer.proofs.meets_line.Tie as tie
 use Rattle.buffer.proofs.meets_line.Reads as reads
 use Rattle.buffer.proofs.meets_line.Lts as lts
 
--- src/lib.rt:272:9
 returns : tie.Need-returns
 returns c = let a = c .before .args in
     λ b. sym (line-away (slotOf (a .w) b) (a .frame) (λ q. c .if1 .taken (omega (arith, q))))
 
--- src/lib.rt:268:1
 returns-2 : tie.Need-returns-2
 returns-2 c = let a = c .before .args in
     let m : a .w % 4294967296 % 65536 ≡ a .w % 65536 = omega arith in

@@ -9,27 +9,21 @@ use Rattle.buffer.proofs.merge.Reads as reads
 use Rattle.buffer.proofs.merge.Lts as lts
 use Rattle.buffer.proofs.with_store.Reads as with-store-reads
 
--- src/lib.rt:78:17
 mul-entry : tie.Need-mul-entry
 mul-entry c = search needs
 
--- src/lib.rt:78:17
 array-copy-out-entry : tie.Need-array-copy-out-entry
 array-copy-out-entry c = search needs
 
--- src/lib.rt:79:14
 with-store-requires : tie.Need-with-store-requires
 with-store-requires c κs = search needs
 
--- src/lib.rt:79:5
 mul-out : tie.Need-mul-out
 mul-out c = search needs
 
--- src/lib.rt:79:5
 array-set-from-out : tie.Need-array-set-from-out
 array-set-from-out c = search needs
 
--- src/lib.rt:67:1
 returns : tie.Need-returns
 returns c = let a = c .before .before .args in ap (λ (x : List ℕ). set (a .bytes) (a .i) x) (c .with-store .ensures)
 

@@ -19,47 +19,37 @@ Inv-loop words used block n₀ n = (n ≤ used) × ((bytes : List (List ℕ)) �
 abbrev μ-loop : tie.MeasureT-loop
 μ-loop words used block n₀ n = n
 
--- src/lib.rt:44:9
 loop-holds : tie.Need-loop-holds Inv-loop μ-loop
 loop-holds c = (search needs, λ bytes h. refl)
 
--- src/lib.rt:48:18
 sub-if2 : tie.Need-sub-if2 Inv-loop μ-loop
 sub-if2 c = search needs
 
--- src/lib.rt:48:12
 mul-if2 : tie.Need-mul-if2 Inv-loop μ-loop
 mul-if2 c = search needs
 
--- src/lib.rt:48:12
 shared-slice-read-if2 : tie.Need-shared-slice-read-if2 Inv-loop μ-loop
 shared-slice-read-if2 c = search needs
 
--- src/lib.rt:49:30
 sub-t14 : tie.Need-sub-t14 Inv-loop μ-loop
 sub-t14 c = search needs
 
--- src/lib.rt:51:9
 sub-n : tie.Need-sub-n Inv-loop μ-loop
 sub-n c = search needs
 
--- src/lib.rt:44:9
 loop-less : tie.Need-loop-less Inv-loop μ-loop
 loop-less c = search needs
 
--- src/lib.rt:44:9
 loop-again : tie.Need-loop-again Inv-loop μ-loop
 loop-again c = let a = c .before .before .before .before .args in
     let l = c .before .before .before .loop in
     (omega arith, λ bytes h. sym (newest-on (now (a .words)) bytes (omega arith) (a .block) (l .n) (omega arith) (c .if2 .left)) ∙ l .inv .1 bytes h)
 
--- src/lib.rt:39:1
 returns : tie.Need-returns Inv-loop μ-loop
 returns c = let a = c .before .before .args in
     let l = c .before .loop in
     λ bytes h. sym (newest-none (slotsOf (now (a .words)) bytes) (a .block) (l .n) (c .if1 .taken)) ∙ l .inv .1 bytes h
 
--- src/lib.rt:39:1
 returns-2 : tie.Need-returns-2 Inv-loop μ-loop
 returns-2 c = let a = c .before .before .before .before .args in
     let l = c .before .before .before .loop in

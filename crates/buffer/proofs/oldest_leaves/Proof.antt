@@ -14,47 +14,36 @@ use Rattle.buffer.proofs.close_bytes.Reads as close-bytes-reads
 use Rattle.buffer.proofs.close_words.Reads as close-words-reads
 use Rattle.buffer.proofs.lay.Reads as lay-reads
 
--- src/lib.rt:107:13
 slice-read-w : tie.Need-slice-read-w
 slice-read-w c = search needs
 
--- src/lib.rt:108:13
 slice-copy-out-b : tie.Need-slice-copy-out-b
 slice-copy-out-b c = search needs
 
--- src/lib.rt:110:16
 cast-mask : tie.Need-cast-mask
 cast-mask c = search needs
 
--- src/lib.rt:111:17
 mul-lay : tie.Need-mul-lay
 mul-lay c = omega (arith, c .before .before .before .before .before .pre .0 .inside 0 (c .before .before .before .before .before .pre .1))
 
--- src/lib.rt:111:5
 lay-requires : tie.Need-lay-requires
 lay-requires c κs = c .before .before .before .before .before .pre .0 .inside 0 (c .before .before .before .before .before .pre .1)
 
--- src/lib.rt:112:5
 close-words-requires : tie.Need-close-words-requires
 close-words-requires c κs = search needs
 
--- src/lib.rt:113:5
 close-bytes-requires : tie.Need-close-bytes-requires
 close-bytes-requires c κs = search needs
 
--- src/lib.rt:101:1
 same-length : tie.Need-same-length
 same-length c = search needs
 
--- src/lib.rt:101:1
 same-length-2 : tie.Need-same-length-2
 same-length-2 c = search needs
 
--- src/lib.rt:101:1
 same-length-3 : tie.Need-same-length-3
 same-length-3 c = search needs
 
--- src/lib.rt:101:1
 returns : tie.Need-returns
 returns c = let a = c .before .before .before .before .before .before .before .before .before .before .before .before .before .before .before .args in
     let f = c .before .before .before .before .before .before .before .before .before .before .before .before .before .before .before .pre .0 in

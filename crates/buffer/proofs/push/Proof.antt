@@ -9,64 +9,49 @@ use Rattle.buffer.proofs.push.Reads as reads
 use Rattle.buffer.proofs.push.Lts as lts
 use Rattle.buffer.proofs.oldest_leaves.Reads as oldest-leaves-reads
 
--- src/lib.rt:131:9
 mul-words : tie.Need-mul-words
 mul-words c = search needs
 
--- src/lib.rt:131:9
 slice-write-words : tie.Need-slice-write-words
 slice-write-words c = search needs
 
--- src/lib.rt:132:9
 mul-b : tie.Need-mul-b
 mul-b c = search needs
 
--- src/lib.rt:132:9
 slice-set-from-b : tie.Need-slice-set-from-b
 slice-set-from-b c = search needs
 
--- src/lib.rt:133:16
 add-result : tie.Need-add-result
 add-result c = search needs
 
--- src/lib.rt:133:9
 same-length : tie.Need-same-length
 same-length c = search needs
 
--- src/lib.rt:133:9
 same-length-2 : tie.Need-same-length-2
 same-length-2 c = search needs
 
--- src/lib.rt:133:9
 returns : tie.Need-returns
 returns c = let a = c .before .before .before .args in
     pushed-in (now (a .memory)) (now (a .words)) (now (a .bytes)) (a .used) (c .before .before .before .pre .0) (a .w) (a .b) (c .if1 .taken) (c .before .before .before .pre .1)
 
--- src/lib.rt:135:5
 oldest-leaves-requires : tie.Need-oldest-leaves-requires
 oldest-leaves-requires c κs = search needs
 
--- src/lib.rt:136:5
 slice-write-words-2 : tie.Need-slice-write-words-2
 slice-write-words-2 c = search needs
 
--- src/lib.rt:137:5
 slice-set-from-b-2 : tie.Need-slice-set-from-b-2
 slice-set-from-b-2 c = search needs
 
--- src/lib.rt:117:1
 same-length-3 : tie.Need-same-length-3
 same-length-3 c = search needs
 
--- src/lib.rt:117:1
 same-length-4 : tie.Need-same-length-4
 same-length-4 c = search needs
 
--- src/lib.rt:117:1
 same-length-5 : tie.Need-same-length-5
 same-length-5 c = search needs
 
--- src/lib.rt:117:1
 returns-2 : tie.Need-returns-2
 returns-2 c = let a = c .before .before .before .before .before .before .before .before .before .before .before .before .args in
     let o = c .before .before .before .before .before .oldest-leaves in

@@ -7,31 +7,24 @@ use Rattle.buffer.proofs.push_half.Reads as reads
 use Rattle.buffer.proofs.push_half.Lts as lts
 use Rattle.buffer.proofs.push.Reads as push-reads
 
--- src/lib.rt:246:38
 mul-push : tie.Need-mul-push
 mul-push c = search needs
 
--- src/lib.rt:246:38
 add-push : tie.Need-add-push
 add-push c = search needs
 
--- src/lib.rt:246:5
 push-requires : tie.Need-push-requires
 push-requires c κs = search needs
 
--- src/lib.rt:233:1
 same-length : tie.Need-same-length
 same-length c = search needs
 
--- src/lib.rt:233:1
 same-length-2 : tie.Need-same-length-2
 same-length-2 c = search needs
 
--- src/lib.rt:233:1
 same-length-3 : tie.Need-same-length-3
 same-length-3 c = search needs
 
--- src/lib.rt:233:1
 returns : tie.Need-returns
 returns c = let a = c .before .before .before .before .before .before .before .before .before .before .before .args in
     half-left (now (a .memory)) (now (a .words)) (now (a .bytes)) (a .used) (a .block) (a .half) _ _ _ _ (c .before .before .before .before .before .push .ensures)

@@ -9,33 +9,26 @@ use Rattle.buffer.proofs.ready_access.Lts as lts
 use Rattle.buffer.proofs.drain.Reads as drain-reads
 use Rattle.buffer.proofs.holds_access.Reads as holds-access-reads
 
--- src/lib.rt:355:8
 holds-access-requires : tie.Need-holds-access-requires
 holds-access-requires c κs = search needs
 
--- src/lib.rt:357:18
 drain-requires : tie.Need-drain-requires
 drain-requires c κs = search needs
 
--- src/lib.rt:358:9
 same-length : tie.Need-same-length
 same-length c = search needs
 
--- src/lib.rt:358:9
 same-length-2 : tie.Need-same-length-2
 same-length-2 c = search needs
 
--- src/lib.rt:358:9
 returns : tie.Need-returns
 returns c = let a = c .before .before .before .before .before .before .before .before .before .before .before .before .before .args in
     let h = sym (c .before .before .before .before .before .before .before .before .before .holds-access .ensures (now (a .bytes)) (c .before .before .before .before .before .before .before .before .before .before .before .before .before .pre .0 .bytes-long)) ∙ c .before .before .before .before .before .before .before .before .if1 .taken in
     ready-drained (now (a .memory)) (now (a .words)) (now (a .bytes)) (a .used) (a .pa .0) (a .width) h _ _ _ _ (c .before .before .before .before .drain .ensures)
 
--- src/lib.rt:342:1
 same-length-3 : tie.Need-same-length-3
 same-length-3 c = search needs
 
--- src/lib.rt:342:1
 returns-2 : tie.Need-returns-2
 returns-2 c = let a = c .before .before .before .before .before .args in
     let h = sym (c .before .holds-access .ensures (now (a .bytes)) (c .before .before .before .before .before .pre .0 .bytes-long)) ∙ c .if1 .left in

@@ -15,65 +15,51 @@ use Rattle.buffer.proofs.newest.Reads as newest-reads
 use Rattle.buffer.proofs.push.Reads as push-reads
 use Rattle.buffer.proofs.with_store.Reads as with-store-reads
 
--- src/lib.rt:218:9
 mask-of-requires : tie.Need-mask-of-requires
 mask-of-requires c κs = search needs
 
--- src/lib.rt:219:9
 newest-requires : tie.Need-newest-requires
 newest-requires c κs = search needs
 
--- src/lib.rt:221:20
 enum-known-found : tie.Need-enum-known-found
 enum-known-found c = search needs
 
--- src/lib.rt:222:41
 cast-join : tie.Need-cast-join
 cast-join c = search needs
 
--- src/lib.rt:222:13
 join-requires : tie.Need-join-requires
 join-requires c κs = let a = c .before .before .before .before .before .before .before .before .before .before .before .before .args in
     let f = c .before .before .before .before .before .before .before .before .before .before .before .before .pre .0 in
     let e = sym (c .before .before .before .before .before .newest .ensures (now (a .bytes)) (f .bytes-long)) ∙ c .before .before .before .found .given .1 in
     (f .words-long, omega (arith, newest-below (slotsOf (now (a .words)) (now (a .bytes))) (a .pa .0 / 16) (a .used) (c .before .before .before .found .given .0 .0) e, f .used-low), c .before .before .before .before .before .before .before .before .before .before .before .before .pre .1 .width-is, c .before .before .before .before .before .before .before .before .before .before .before .before .pre .1 .in-block)
 
--- src/lib.rt:226:36
 enum-told : tie.Need-enum-told
 enum-told c = search needs
 
--- src/lib.rt:226:47
 cast-with-store : tie.Need-cast-with-store
 cast-with-store c = search needs
 
--- src/lib.rt:226:17
 with-store-requires : tie.Need-with-store-requires
 with-store-requires c κs = search needs
 
--- src/lib.rt:227:47
 cast-push : tie.Need-cast-push
 cast-push c = search needs
 
--- src/lib.rt:227:46
 mul-push : tie.Need-mul-push
 mul-push c = search needs
 
--- src/lib.rt:227:46
 add-push : tie.Need-add-push
 add-push c = search needs
 
--- src/lib.rt:227:13
 push-requires : tie.Need-push-requires
 push-requires c κs = let a = c .before .before .before .before .before .before .before .before .before .before .before .before .before .args in
     let f = c .before .before .before .before .before .before .before .before .before .before .before .before .before .pre .0 in
     let e = sym (c .before .before .before .before .before .before .newest .ensures (now (a .bytes)) (f .bytes-long)) ∙ c .before .before .before .before .enum-told .given .1 in
     (f, new-inside (now (a .memory)) (now (a .words)) (now (a .bytes)) (a .used) f (a .pa) (a .width) (a .value) (c .before .before .before .before .before .before .before .before .before .before .before .before .before .pre .1) e (c .before .before .before .before .before .before .before .before .mask-of .result) (c .before .before .before .before .before .before .before .before .mask-of .ensures .0) (c .before .before .before .before .before .before .before .before .mask-of .ensures .1))
 
--- src/lib.rt:202:1
 same-length : tie.Need-same-length
 same-length c = search needs
 
--- src/lib.rt:202:1
 returns : tie.Need-returns
 returns c = let a = c .before .before .before .before .before .before .before .before .before .before .before .before .before .before .before .args in
     let f = c .before .before .before .before .before .before .before .before .before .before .before .before .before .before .before .pre .0 in
@@ -81,15 +67,12 @@ returns c = let a = c .before .before .before .before .before .before .before .b
     rw (c .before .before .join .ensures .0, c .before .before .join .ensures .1)
     (joined-left (now (a .memory)) (now (a .words)) (now (a .bytes)) (a .used) f (a .pa) (a .width) (a .value) (c .before .before .before .before .before .before .before .before .before .before .before .before .before .before .before .pre .1) (c .before .before .before .before .before .before .found .given .0 .0) e (c .before .before .before .before .before .before .before .before .before .before .mask-of .result) (c .before .before .before .before .before .before .before .before .before .before .mask-of .ensures .0) (c .before .before .before .before .before .before .before .before .before .before .mask-of .ensures .1))
 
--- src/lib.rt:202:1
 same-length-2 : tie.Need-same-length-2
 same-length-2 c = search needs
 
--- src/lib.rt:202:1
 same-length-3 : tie.Need-same-length-3
 same-length-3 c = search needs
 
--- src/lib.rt:202:1
 returns-2 : tie.Need-returns-2
 returns-2 c = let a = c .before .before .before .before .before .before .before .before .before .before .before .before .before .before .before .before .before .before .args in
     let f = c .before .before .before .before .before .before .before .before .before .before .before .before .before .before .before .before .before .before .pre .0 in

@@ -11,60 +11,46 @@ use Rattle.cache.proofs.dirty_halves.Reads as dirty-halves-reads
 use Rattle.cache.proofs.line_of.Reads as line-of-reads
 use Rattle.cache.proofs.send_halves.Reads as send-halves-reads
 
--- src/lib.rt:227:13
 mul-w : tie.Need-mul-w
 mul-w c = search needs
 
--- src/lib.rt:227:13
 slice-read-w : tie.Need-slice-read-w
 slice-read-w c = search needs
 
--- src/lib.rt:228:9
 line-of-requires : tie.Need-line-of-requires
 line-of-requires c κs = search needs
 
--- src/lib.rt:229:63
 mul-send-halves : tie.Need-mul-send-halves
 mul-send-halves c = search needs
 
--- src/lib.rt:229:9
 send-halves-requires : tie.Need-send-halves-requires
 send-halves-requires c κs = let k = c .before .before .before .before .before .before .before .before .before .pre .1 in
     (c .before .before .before .before .before .before .before .before .before .pre .0, rw (c .before .before .before .line-of .ensures) (k .inside), k .short, omega (arith, k .low, k .store-long))
 
--- src/lib.rt:230:16
 cleaned-word-requires : tie.Need-cleaned-word-requires
 cleaned-word-requires c κs = search needs
 
--- src/lib.rt:230:5
 mul-lines : tie.Need-mul-lines
 mul-lines c = search needs
 
--- src/lib.rt:230:5
 slice-write-lines : tie.Need-slice-write-lines
 slice-write-lines c = search needs
 
--- src/lib.rt:233:17
 dirty-halves-requires : tie.Need-dirty-halves-requires
 dirty-halves-requires c κs = search needs
 
--- src/lib.rt:213:1
 same-length : tie.Need-same-length
 same-length c = search needs
 
--- src/lib.rt:213:1
 same-length-2 : tie.Need-same-length-2
 same-length-2 c = search needs
 
--- src/lib.rt:213:1
 same-length-3 : tie.Need-same-length-3
 same-length-3 c = search needs
 
--- src/lib.rt:213:1
 same-length-4 : tie.Need-same-length-4
 same-length-4 c = search needs
 
--- src/lib.rt:213:1
 returns : tie.Need-returns
 returns c = let a = c .before .before .before .before .before .before .before .before .before .before .before .before .before .before .before .before .before .args in
     λ ps. clean-left (now (a .memory)) (now (a .words)) (now (a .bytes)) (a .used) (now (a .lines)) ps (now (a .store)) (a .i) (c .before .before .before .before .before .before .before .before .before .before .before .line-of .result) (c .before .before .before .before .before .before .before .before .before .before .before .line-of .ensures) _ _ _ _ (c .before .before .before .before .before .before .before .send-halves .ensures) (c .before .cleaned-word .result) (c .dirty-halves .result) (c .before .cleaned-word .ensures) (c .dirty-halves .ensures)

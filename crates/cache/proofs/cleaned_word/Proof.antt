@@ -5,15 +5,12 @@ use Rattle.cache.proofs.cleaned_word.Tie as tie
 use Rattle.cache.proofs.cleaned_word.Reads as reads
 use Rattle.cache.proofs.cleaned_word.Lts as lts
 
--- src/lib.rt:196:5
 mul-result : tie.Need-mul-result
 mul-result c = search needs
 
--- src/lib.rt:196:5
 add-result : tie.Need-add-result
 add-result c = search needs
 
--- src/lib.rt:193:1
 returns : tie.Need-returns
 returns c = clean-word (c .args .w)
 

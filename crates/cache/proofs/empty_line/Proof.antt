@@ -12,19 +12,15 @@ use Rattle.cache.proofs.empty_line.Tie as tie
 use Rattle.cache.proofs.empty_line.Reads as reads
 use Rattle.cache.proofs.empty_line.Lts as lts
 
--- src/lib.rt:133:5
 mul-lines : tie.Need-mul-lines
 mul-lines c = search needs
 
--- src/lib.rt:133:5
 slice-write-lines : tie.Need-slice-write-lines
 slice-write-lines c = search needs
 
--- src/lib.rt:129:1
 same-length : tie.Need-same-length
 same-length c = search needs
 
--- src/lib.rt:129:1
 returns : tie.Need-returns
 returns c = map-set lineOf (now (c .args .lines)) (c .args .i) 0 ∙ ap (λ (l : Line). set (linesOf (now (c .args .lines))) (c .args .i) l) line-zero
 

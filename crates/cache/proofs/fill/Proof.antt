@@ -15,116 +15,88 @@ use Rattle.cache.proofs.line_of.Reads as line-of-reads
 use Rattle.cache.proofs.line_word.Reads as line-word-reads
 use Rattle.cache.proofs.read_line.Reads as read-line-reads
 
--- src/lib.rt:284:13
 cast-s : tie.Need-cast-s
 cast-s c = search needs
 
--- src/lib.rt:285:13
 mul-p : tie.Need-mul-p
 mul-p c = search needs
 
--- src/lib.rt:285:13
 slice-read-p : tie.Need-slice-read-p
 slice-read-p c = search needs
 
--- src/lib.rt:286:13
 mul-i : tie.Need-mul-i
 mul-i c = search needs
 
--- src/lib.rt:286:22
 cast-i : tie.Need-cast-i
 cast-i c = search needs
 
--- src/lib.rt:286:13
 add-i : tie.Need-add-i
 add-i c = search needs
 
--- src/lib.rt:287:21
 mul-line-of : tie.Need-mul-line-of
 mul-line-of c = search needs
 
--- src/lib.rt:287:21
 slice-read-line-of : tie.Need-slice-read-line-of
 slice-read-line-of c = search needs
 
--- src/lib.rt:287:9
 line-of-requires : tie.Need-line-of-requires
 line-of-requires c κs = search needs
 
--- src/lib.rt:289:60
 mul-give-way : tie.Need-mul-give-way
 mul-give-way c = search needs
 
--- src/lib.rt:289:9
 give-way-requires : tie.Need-give-way-requires
 give-way-requires c κs = let k = c .before .before .before .before .before .before .before .before .before .before .before .before .before .before .pre .1 in
     (c .before .before .before .before .before .before .before .before .before .before .before .before .before .before .pre .0, rw (c .before .before .before .before .before .line-of .ensures) (k .victim-inside), k .short, omega (arith, k .pointer, k .store-long))
 
--- src/lib.rt:290:20
 add-pointers : tie.Need-add-pointers
 add-pointers c = search needs
 
--- src/lib.rt:290:5
 mul-pointers : tie.Need-mul-pointers
 mul-pointers c = search needs
 
--- src/lib.rt:290:5
 slice-write-pointers : tie.Need-slice-write-pointers
 slice-write-pointers c = search needs
 
--- src/lib.rt:291:16
 line-word-requires : tie.Need-line-word-requires
 line-word-requires c κs = search needs
 
--- src/lib.rt:291:5
 mul-lines : tie.Need-mul-lines
 mul-lines c = search needs
 
--- src/lib.rt:291:5
 slice-write-lines : tie.Need-slice-write-lines
 slice-write-lines c = search needs
 
--- src/lib.rt:292:22
 mul-read-line : tie.Need-mul-read-line
 mul-read-line c = search needs
 
--- src/lib.rt:292:39
 mul-read-line-2 : tie.Need-mul-read-line-2
 mul-read-line-2 c = search needs
 
--- src/lib.rt:292:38
 cast-read-line : tie.Need-cast-read-line
 cast-read-line c = search needs
 
--- src/lib.rt:292:5
 read-line-requires : tie.Need-read-line-requires
 read-line-requires c κs = search needs
 
--- src/lib.rt:295:17
 dirty-halves-requires : tie.Need-dirty-halves-requires
 dirty-halves-requires c κs = search needs
 
--- src/lib.rt:268:1
 same-length : tie.Need-same-length
 same-length c = search needs
 
--- src/lib.rt:268:1
 same-length-2 : tie.Need-same-length-2
 same-length-2 c = search needs
 
--- src/lib.rt:268:1
 same-length-3 : tie.Need-same-length-3
 same-length-3 c = search needs
 
--- src/lib.rt:268:1
 same-length-4 : tie.Need-same-length-4
 same-length-4 c = search needs
 
--- src/lib.rt:268:1
 same-length-5 : tie.Need-same-length-5
 same-length-5 c = search needs
 
--- src/lib.rt:268:1
 returns : tie.Need-returns
 returns c = let a = c .before .before .before .before .before .before .before .before .before .before .before .before .before .before .before .before .before .before .before .before .before .before .before .before .before .before .before .args in
     let ps = now (a .pointers) in

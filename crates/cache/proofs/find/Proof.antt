@@ -22,62 +22,49 @@ Inv-loop lines base tag i₀ i = (i ≤ 32) × (base ≤ 480) × (firstFrom (has
 abbrev μ-loop : tie.MeasureT-loop
 μ-loop lines base tag i₀ i = 32 - i
 
--- src/lib.rt:43:17
 mul-base : tie.Need-mul-base Inv-loop μ-loop
 mul-base c = search needs
 
--- src/lib.rt:43:16
 cast-base : tie.Need-cast-base Inv-loop μ-loop
 cast-base c = search needs
 
--- src/lib.rt:46:9
 loop-holds : tie.Need-loop-holds Inv-loop μ-loop
 loop-holds c = let a = c .before .before .before .args in
     let base = a .va .0 / 32 % 16 * 32 in
     (search needs, omega arith, ap (λ (k : ℕ). firstFrom (hasTag (a .va .0 / 512)) k (take 32 (drop base (linesOf (now (a .lines)))))) (add-zero base))
 
--- src/lib.rt:50:26
 add-has-tag : tie.Need-add-has-tag Inv-loop μ-loop
 add-has-tag c = search needs
 
--- src/lib.rt:50:20
 mul-has-tag : tie.Need-mul-has-tag Inv-loop μ-loop
 mul-has-tag c = search needs
 
--- src/lib.rt:50:20
 shared-slice-read-has-tag : tie.Need-shared-slice-read-has-tag Inv-loop μ-loop
 shared-slice-read-has-tag c = search needs
 
--- src/lib.rt:50:12
 has-tag-requires : tie.Need-has-tag-requires Inv-loop μ-loop
 has-tag-requires c κs = search needs
 
--- src/lib.rt:51:30
 add-t17 : tie.Need-add-t17 Inv-loop μ-loop
 add-t17 c = search needs
 
--- src/lib.rt:53:9
 add-i : tie.Need-add-i Inv-loop μ-loop
 add-i c = search needs
 
--- src/lib.rt:46:9
 loop-less : tie.Need-loop-less Inv-loop μ-loop
 loop-less c = search needs
 
--- src/lib.rt:46:9
 loop-again : tie.Need-loop-again Inv-loop μ-loop
 loop-again c = let a = c .before .before .before .before .before .before .before .before .args in
     let l = c .before .before .before .before .loop in
     (omega arith, l .inv .1, sym (find-on (now (a .lines)) (a .va .0 / 512) (a .va .0 / 32 % 16 * 32) (l .i) (c .before .before .before .before .before .before .before .before .pre .0) (l .inv .1) (omega arith) (sym (c .before .has-tag .ensures) ∙ c .if2 .left)) ∙ l .inv .2)
 
--- src/lib.rt:39:1
 returns : tie.Need-returns Inv-loop μ-loop
 unfolding find
 returns c = let a = c .before .before .before .before .before .args in
     let l = c .before .loop in
     sym (find-end (now (a .lines)) (a .va .0 / 512) (a .va .0 / 32 % 16 * 32) (l .i) (c .before .before .before .before .before .pre .0) (l .inv .1) (omega arith)) ∙ l .inv .2
 
--- src/lib.rt:39:1
 returns-2 : tie.Need-returns-2 Inv-loop μ-loop
 unfolding find
 returns-2 c = let a = c .before .before .before .before .before .before .before .before .args in

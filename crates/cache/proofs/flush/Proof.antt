@@ -19,36 +19,28 @@ Inv-loop lines₀ i₀ lines i = (i ≤ 512) × (length lines ≡ 512) × Upto e
 abbrev μ-loop : tie.MeasureT-loop
 μ-loop lines₀ i₀ lines i = 512 - i
 
--- src/lib.rt:142:5
 loop-holds : tie.Need-loop-holds Inv-loop μ-loop
 loop-holds c = (search needs, search needs, upto-start emptied (linesOf (now (c .args .lines))))
 
--- src/lib.rt:143:9
 mul-lines : tie.Need-mul-lines Inv-loop μ-loop
 mul-lines c = search needs
 
--- src/lib.rt:143:9
 slice-write-lines : tie.Need-slice-write-lines Inv-loop μ-loop
 slice-write-lines c = search needs
 
--- src/lib.rt:144:9
 add-i : tie.Need-add-i Inv-loop μ-loop
 add-i c = search needs
 
--- src/lib.rt:142:5
 loop-less : tie.Need-loop-less Inv-loop μ-loop
 loop-less c = search needs
 
--- src/lib.rt:142:5
 loop-again : tie.Need-loop-again Inv-loop μ-loop
 loop-again c = let l = c .before .loop in
     (omega arith, simp length-set (l .inv .1), flush-step (now (c .before .before .args .lines)) (l .lines) (l .i) (l .inv .2) (omega arith))
 
--- src/lib.rt:137:1
 same-length : tie.Need-same-length Inv-loop μ-loop
 same-length c = search needs
 
--- src/lib.rt:137:1
 returns : tie.Need-returns Inv-loop μ-loop
 returns c = let l = c .before .loop in
     flush-end (now (c .before .before .args .lines)) (l .lines) (l .i) (l .inv .2) (search needs) (omega arith)

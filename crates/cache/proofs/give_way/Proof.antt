@@ -6,23 +6,18 @@ use Rattle.cache.proofs.give_way.Lts as lts
 use Rattle.buffer.proofs.ready_line.Reads as ready-line-reads
 use Rattle.cache.proofs.send_halves.Reads as send-halves-reads
 
--- src/lib.rt:263:9
 send-halves-requires : tie.Need-send-halves-requires
 send-halves-requires c κs = search needs
 
--- src/lib.rt:264:5
 ready-line-requires : tie.Need-ready-line-requires
 ready-line-requires c κs = search needs
 
--- src/lib.rt:248:1
 same-length : tie.Need-same-length
 same-length c = search needs
 
--- src/lib.rt:248:1
 same-length-2 : tie.Need-same-length-2
 same-length-2 c = search needs
 
--- src/lib.rt:248:1
 returns : tie.Need-returns
 returns c = rw (← c .before .before .before .before .before .before .before .before .before .before .before .before .send-halves .ensures .same) (c .before .before .before .before .ready-line .ensures)
 

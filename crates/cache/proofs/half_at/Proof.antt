@@ -18,37 +18,29 @@ Inv-loop store at out₀ i₀ out i = (i ≤ 16) × (length out ≡ 16) × Towar
 abbrev μ-loop : tie.MeasureT-loop
 μ-loop store at out₀ i₀ out i = 16 - i
 
--- src/lib.rt:109:5
 loop-holds : tie.Need-loop-holds Inv-loop μ-loop
 loop-holds c = (search needs, search needs, toward-start (take 16 (drop (c .args .at) (now (c .args .store)))) _)
 
--- src/lib.rt:110:24
 add-out : tie.Need-add-out Inv-loop μ-loop
 add-out c = search needs
 
--- src/lib.rt:110:18
 shared-slice-read-out : tie.Need-shared-slice-read-out Inv-loop μ-loop
 shared-slice-read-out c = search needs
 
--- src/lib.rt:110:9
 array-write-out : tie.Need-array-write-out Inv-loop μ-loop
 array-write-out c = search needs
 
--- src/lib.rt:111:9
 add-i : tie.Need-add-i Inv-loop μ-loop
 add-i c = search needs
 
--- src/lib.rt:109:5
 loop-less : tie.Need-loop-less Inv-loop μ-loop
 loop-less c = search needs
 
--- src/lib.rt:109:5
 loop-again : tie.Need-loop-again Inv-loop μ-loop
 loop-again c = let a = c .before .before .before .args in
     let l = c .before .before .loop in
     (omega arith, simp length-set (l .inv .1), half-step (now (a .store)) (a .at) (c .before .before .before .pre) _ (l .out) (l .i) (l .inv .2) (c .before .loop-test .taken) (l .inv .1))
 
--- src/lib.rt:103:1
 returns : tie.Need-returns Inv-loop μ-loop
 returns c = let a = c .before .before .args in
     let l = c .before .loop in

@@ -6,11 +6,9 @@ use Rattle.cache.proofs.has_tag.Tie as tie
 use Rattle.cache.proofs.has_tag.Reads as reads
 use Rattle.cache.proofs.has_tag.Lts as lts
 
--- src/lib.rt:33:9
 returns : tie.Need-returns
 returns c = sym (tag-valid _ (c .before .args .w) (c .if1 .taken))
 
--- src/lib.rt:29:1
 returns-2 : tie.Need-returns-2
 returns-2 c = sym (tag-invalid _ (c .before .args .w) (c .if1 .left))
 

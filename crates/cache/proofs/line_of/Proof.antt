@@ -9,15 +9,12 @@ use Rattle.cache.proofs.line_of.Tie as tie
 use Rattle.cache.proofs.line_of.Reads as reads
 use Rattle.cache.proofs.line_of.Lts as lts
 
--- src/lib.rt:21:14
 cast-t5 : tie.Need-cast-t5
 cast-t5 c = search needs
 
--- src/lib.rt:22:16
 cast-t8 : tie.Need-cast-t8
 cast-t8 c = search needs
 
--- src/lib.rt:16:1
 returns : tie.Need-returns
 unfolding lineOf
 returns c = let w = c .args .w in let e : w / 1 % 2 ≡ w % 2 = omega arith in rw e

@@ -5,23 +5,18 @@ use Rattle.cache.proofs.line_word.Tie as tie
 use Rattle.cache.proofs.line_word.Reads as reads
 use Rattle.cache.proofs.line_word.Lts as lts
 
--- src/lib.rt:244:5
 mul-result : tie.Need-mul-result
 mul-result c = search needs
 
--- src/lib.rt:244:33
 mul-result-2 : tie.Need-mul-result-2
 mul-result-2 c = search needs
 
--- src/lib.rt:244:5
 add-result : tie.Need-add-result
 add-result c = search needs
 
--- src/lib.rt:244:5
 add-result-2 : tie.Need-add-result-2
 add-result-2 c = search needs
 
--- src/lib.rt:240:1
 returns : tie.Need-returns
 returns c = fresh-word (c .args .tag) (c .args .frame) (c .pre)
 

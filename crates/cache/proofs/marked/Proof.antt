@@ -6,27 +6,21 @@ use Rattle.cache.proofs.marked.Tie as tie
 use Rattle.cache.proofs.marked.Reads as reads
 use Rattle.cache.proofs.marked.Lts as lts
 
--- src/lib.rt:72:13
 returns : tie.Need-returns
 returns c = marked-low (c .before .before .args .w) (c .before .before .args .offset) (c .before .if1 .taken) (c .if2 .taken)
 
--- src/lib.rt:74:16
 add-result : tie.Need-add-result
 add-result c = search needs
 
--- src/lib.rt:74:9
 returns-2 : tie.Need-returns-2
 returns-2 c = mark-low (c .before .before .args .w) (c .before .before .args .offset) (c .before .if1 .taken) (c .if2 .left)
 
--- src/lib.rt:77:9
 returns-3 : tie.Need-returns-3
 returns-3 c = marked-high (c .before .before .args .w) (c .before .before .args .offset) (c .before .if1 .left) (c .if3 .taken)
 
--- src/lib.rt:79:5
 add-result-2 : tie.Need-add-result-2
 add-result-2 c = search needs
 
--- src/lib.rt:67:1
 returns-4 : tie.Need-returns-4
 returns-4 c = mark-high (c .before .before .args .w) (c .before .before .args .offset) (c .before .if1 .left) (c .if3 .left)
 

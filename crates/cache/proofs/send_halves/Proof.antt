@@ -6,43 +6,33 @@ use Rattle.cache.proofs.send_halves.Reads as reads
 use Rattle.cache.proofs.send_halves.Lts as lts
 use Rattle.cache.proofs.send_half.Reads as send-half-reads
 
--- src/lib.rt:188:58
 mul-send-half : tie.Need-mul-send-half
 mul-send-half c = search needs
 
--- src/lib.rt:188:9
 send-half-requires : tie.Need-send-half-requires
 send-half-requires c κs = search needs
 
--- src/lib.rt:189:48
 mul-send-half-2 : tie.Need-mul-send-half-2
 mul-send-half-2 c = search needs
 
--- src/lib.rt:189:48
 add-send-half : tie.Need-add-send-half
 add-send-half c = search needs
 
--- src/lib.rt:189:72
 add-send-half-2 : tie.Need-add-send-half-2
 add-send-half-2 c = search needs
 
--- src/lib.rt:189:5
 send-half-requires-2 : tie.Need-send-half-requires-2
 send-half-requires-2 c κs = search needs
 
--- src/lib.rt:174:1
 same-length : tie.Need-same-length
 same-length c = search needs
 
--- src/lib.rt:174:1
 same-length-2 : tie.Need-same-length-2
 same-length-2 c = search needs
 
--- src/lib.rt:174:1
 same-length-3 : tie.Need-same-length-3
 same-length-3 c = search needs
 
--- src/lib.rt:174:1
 returns : tie.Need-returns
 unfolding halvesSent
 returns c = rw (← c .before .before .before .before .before .before .before .before .before .before .before .before .before .before .before .send-half .ensures .same) (c .before .before .before .before .before .send-half2 .ensures)

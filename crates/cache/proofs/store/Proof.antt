@@ -12,51 +12,39 @@ use Rattle.cache.proofs.store.Lts as lts
 use Rattle.cache.proofs.marked.Reads as marked-reads
 use Rattle.words.proofs.store.Reads as store-reads
 
--- src/lib.rt:98:23
 mul-marked : tie.Need-mul-marked
 mul-marked c = search needs
 
--- src/lib.rt:98:23
 slice-read-marked : tie.Need-slice-read-marked
 slice-read-marked c = search needs
 
--- src/lib.rt:98:16
 marked-requires : tie.Need-marked-requires
 marked-requires c κs = search needs
 
--- src/lib.rt:98:5
 mul-lines : tie.Need-mul-lines
 mul-lines c = search needs
 
--- src/lib.rt:98:5
 slice-write-lines : tie.Need-slice-write-lines
 slice-write-lines c = search needs
 
--- src/lib.rt:99:25
 mul-store : tie.Need-mul-store
 mul-store c = search needs
 
--- src/lib.rt:99:34
 cast-store : tie.Need-cast-store
 cast-store c = search needs
 
--- src/lib.rt:99:25
 add-store : tie.Need-add-store
 add-store c = search needs
 
--- src/lib.rt:99:5
 store-requires : tie.Need-store-requires
 store-requires c κs = search needs
 
--- src/lib.rt:83:1
 same-length : tie.Need-same-length
 same-length c = search needs
 
--- src/lib.rt:83:1
 same-length-2 : tie.Need-same-length-2
 same-length-2 c = search needs
 
--- src/lib.rt:83:1
 returns : tie.Need-returns
 unfolding hitStore
 returns c = let a = c .before .before .before .before .before .before .before .before .before .args in

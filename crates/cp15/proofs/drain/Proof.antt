@@ -7,19 +7,15 @@ use Rattle.cp15.proofs.drain.Reads as reads
 use Rattle.cp15.proofs.drain.Lts as lts
 use Rattle.buffer.proofs.drain.Reads as drain-reads
 
--- src/lib.rt:112:14
 drain-requires : tie.Need-drain-requires
 drain-requires c κs = search needs
 
--- src/lib.rt:104:1
 same-length : tie.Need-same-length
 same-length c = search needs
 
--- src/lib.rt:104:1
 same-length-2 : tie.Need-same-length-2
 same-length-2 c = search needs
 
--- src/lib.rt:104:1
 returns : tie.Need-returns
 returns c = let a = c .before .before .before .before .before .before .before .before .before .before .args in (λ ls ps st es n. drain-left es (a .s) n (record { memory = now (a .memory); words = now (a .words); bytes = now (a .bytes); lines = ls; pointers = ps; store = st }) (c .before .before .before .before .drain .last .0) (c .before .before .before .before .drain .last .1 .0) (c .before .before .before .before .drain .result) (c .before .before .before .before .drain .ensures), c .before .before .before .before .drain .ensures .fits .bytes-long)
 

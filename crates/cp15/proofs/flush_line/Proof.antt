@@ -11,34 +11,27 @@ use Rattle.cp15.proofs.flush_line.Lts as lts
 use Rattle.cache.proofs.empty_line.Reads as empty-line-reads
 use Rattle.cache.proofs.find.Reads as find-reads
 
--- src/lib.rt:53:9
 find-requires : tie.Need-find-requires
 find-requires c κs = search needs
 
--- src/lib.rt:55:20
 enum-known-found : tie.Need-enum-known-found
 enum-known-found c = search needs
 
--- src/lib.rt:56:13
 empty-line-requires : tie.Need-empty-line-requires
 empty-line-requires c κs = (c .before .before .before .before .before .before .before .pre .0, found (linesOf (now (c .before .before .before .before .before .before .before .args .lines))) (c .before .before .before .before .before .before .before .args .va) _ (sym (c .before .before .before .before .find .ensures) ∙ c .before .before .found .given .1) .low)
 
 enum-told : tie.Need-enum-told
 enum-told c = search needs
 
--- src/lib.rt:47:1
 same-length : tie.Need-same-length
 same-length c = search needs
 
--- src/lib.rt:47:1
 returns : tie.Need-returns
 returns c = let a = c .before .before .before .before .before .before .before .before .before .before .args in λ ps st. line-flushed (now (a .lines)) ps st (a .va) (c .before .before .empty-line .last .0) _ (sym (c .before .before .before .before .before .before .before .find .ensures) ∙ c .before .before .before .before .before .found .given .1) (c .before .before .empty-line .ensures)
 
--- src/lib.rt:47:1
 same-length-2 : tie.Need-same-length-2
 same-length-2 c = search needs
 
--- src/lib.rt:47:1
 returns-2 : tie.Need-returns-2
 returns-2 c = let a = c .before .before .before .before .before .args in λ ps st. none-flushed (now (a .lines)) ps st (a .va) (sym (c .before .before .find .ensures) ∙ c .enum-told .given .1)
 

@@ -9,19 +9,15 @@ use Rattle.cp15.proofs.is_flush.Reads as reads
 use Rattle.cp15.proofs.is_flush.Lts as lts
 use Rattle.registers.proofs.is_pair.Reads as is-pair-reads
 
--- src/lib.rt:40:8
 is-pair-requires : tie.Need-is-pair-requires
 is-pair-requires c κs = search needs
 
--- src/lib.rt:41:9
 returns : tie.Need-returns
 returns c = sym (or-left _ _ (sym (c .before .is-pair .ensures) ∙ c .if1 .taken))
 
--- src/lib.rt:43:5
 is-pair-requires-2 : tie.Need-is-pair-requires-2
 is-pair-requires-2 c κs = search needs
 
--- src/lib.rt:37:1
 returns-2 : tie.Need-returns-2
 returns-2 c = let e : isPair (c .before .before .before .args .t) 0 7 ≡ false = sym (c .before .before .is-pair .ensures) ∙ c .before .if1 .left in rw e (c .is-pair2 .ensures)
 

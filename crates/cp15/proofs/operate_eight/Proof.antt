@@ -17,44 +17,35 @@ use Rattle.registers.proofs.is_pair.Reads as is-pair-reads
 use Rattle.tlb.proofs.drop_covering.Reads as drop-covering-reads
 use Rattle.tlb.proofs.flush.Reads as flush-reads
 
--- src/lib.rt:157:8
 is-flush-requires : tie.Need-is-flush-requires
 is-flush-requires c κs = search needs
 
--- src/lib.rt:158:9
 flush-requires : tie.Need-flush-requires
 flush-requires c κs = search needs
 
--- src/lib.rt:159:9
 same-length : tie.Need-same-length
 same-length c = search needs
 
--- src/lib.rt:159:9
 returns : tie.Need-returns
 returns c = let a = c .before .before .before .before .before .before .before .args in
     let f : (isPair (a .t) 0 7 || isPair (a .t) 0 6) ≡ true = sym (c .before .before .before .before .before .is-flush .ensures) ∙ c .before .before .before .before .if1 .taken in
     λ l s n. ap (λ (x : List Entry). withEntries (machineOf l (now (a .entries)) s n) x) (c .before .before .flush .ensures) ∙ sym (eight-flush (machineOf l (now (a .entries)) s n) (a .t) (a .va) (c .before .before .before .before .before .before .before .pre .0) f)
 
--- src/lib.rt:161:8
 is-pair-requires : tie.Need-is-pair-requires
 is-pair-requires c κs = search needs
 
--- src/lib.rt:162:9
 drop-covering-requires : tie.Need-drop-covering-requires
 drop-covering-requires c κs = search needs
 
--- src/lib.rt:153:1
 same-length-2 : tie.Need-same-length-2
 same-length-2 c = search needs
 
--- src/lib.rt:153:1
 returns-2 : tie.Need-returns-2
 returns-2 c = let a = c .before .before .before .before .before .before .before .before .before .args in
     let f : (isPair (a .t) 0 7 || isPair (a .t) 0 6) ≡ false = sym (c .before .before .before .before .before .before .before .is-flush .ensures) ∙ c .before .before .before .before .before .before .if1 .left in
     let g : isPair (a .t) 1 6 ≡ true = sym (c .before .before .before .before .before .is-pair .ensures) ∙ c .before .before .before .before .if2 .taken in
     λ l s n. ap (λ (x : List Entry). withEntries (machineOf l (now (a .entries)) s n) x) (c .before .before .drop-covering .ensures) ∙ sym (eight-drop (machineOf l (now (a .entries)) s n) (a .t) (a .va) (c .before .before .before .before .before .before .before .before .before .pre .0) f g)
 
--- src/lib.rt:153:1
 returns-3 : tie.Need-returns-3
 returns-3 c = let a = c .before .before .before .before .before .args in
     let f : (isPair (a .t) 0 7 || isPair (a .t) 0 6) ≡ false = sym (c .before .before .before .is-flush .ensures) ∙ c .before .before .if1 .left in

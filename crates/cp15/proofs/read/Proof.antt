@@ -6,11 +6,9 @@ use Rattle.cp15.proofs.read.Reads as reads
 use Rattle.cp15.proofs.read.Lts as lts
 use Rattle.registers.proofs.read.Reads as read-reads
 
--- src/lib.rt:32:31
 read-requires : tie.Need-read-requires
 read-requires c κs = search needs
 
--- src/lib.rt:25:1
 returns : tie.Need-returns
 unfolding read
 returns c = λ l es n. rw (c .read .ensures)

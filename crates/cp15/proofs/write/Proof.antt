@@ -9,35 +9,27 @@ use Rattle.cp15.proofs.operate.Reads as operate-reads
 use Rattle.cp15.proofs.with_registers.Reads as with-registers-reads
 use Rattle.registers.proofs.written.Reads as written-reads
 
--- src/lib.rt:226:9
 written-requires : tie.Need-written-requires
 written-requires c κs = search needs
 
--- src/lib.rt:228:9
 operate-requires : tie.Need-operate-requires
 operate-requires c κs = search needs
 
--- src/lib.rt:230:16
 with-registers-requires : tie.Need-with-registers-requires
 with-registers-requires c κs = search needs
 
--- src/lib.rt:208:1
 same-length : tie.Need-same-length
 same-length c = search needs
 
--- src/lib.rt:208:1
 same-length-2 : tie.Need-same-length-2
 same-length-2 c = search needs
 
--- src/lib.rt:208:1
 same-length-3 : tie.Need-same-length-3
 same-length-3 c = search needs
 
--- src/lib.rt:208:1
 same-length-4 : tie.Need-same-length-4
 same-length-4 c = search needs
 
--- src/lib.rt:208:1
 returns : tie.Need-returns
 returns c = let a = c .before .before .before .before .before .before .before .before .before .before .before .before .before .before .before .before .before .before .before .before .before .before .args in
     let o = c .before .before .before .before .before .before .before .before .before .operate .last in

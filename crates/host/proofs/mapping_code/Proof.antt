@@ -7,47 +7,36 @@ use Rattle.host.proofs.mapping_code.Lts as lts
 use Rattle.tlb.proofs.word_of.Reads as word-of-reads
 use Rattle.values.proofs.status_number.Reads as status-number-reads
 
--- src/lib.rt:67:24
 enum-known-m : tie.Need-enum-known-m
 enum-known-m c = search needs
 
--- src/lib.rt:67:30
 word-of-requires : tie.Need-word-of-requires
 word-of-requires c κs = rw (c .before .m .given .1) at (c .before .before .before .pre)
 
--- src/lib.rt:68:25
 enum-known-m-2 : tie.Need-enum-known-m-2
 enum-known-m-2 c = search needs
 
--- src/lib.rt:68:40
 cast-result : tie.Need-cast-result
 cast-result c = search needs
 
--- src/lib.rt:68:39
 mul-result : tie.Need-mul-result
 mul-result c = search needs
 
--- src/lib.rt:68:58
 status-number-requires : tie.Need-status-number-requires
 status-number-requires c κs = search needs
 
--- src/lib.rt:68:58
 cast-result-2 : tie.Need-cast-result-2
 cast-result-2 c = search needs
 
--- src/lib.rt:68:39
 add-result : tie.Need-add-result
 add-result c = search needs
 
--- src/lib.rt:68:34
 mul-result-2 : tie.Need-mul-result-2
 mul-result-2 c = search needs
 
--- src/lib.rt:62:1
 returns : tie.Need-returns
 returns c = rw (c .before .before .m .given .1) (c .word-of .ensures)
 
--- src/lib.rt:62:1
 returns-2 : tie.Need-returns-2
 returns-2 c = rw (c .before .before .m2 .given .1) (omega (arith, c .status-number .ensures .0))
 

@@ -9,31 +9,24 @@ use Rattle.host.proofs.sa110_call.Reads as reads
 use Rattle.host.proofs.sa110_call.Lts as lts
 use Rattle.sa110.proofs.run.Reads as run-reads
 
--- src/lib.rt:210:52
 slice-aggregate-run : tie.Need-slice-aggregate-run
 slice-aggregate-run c = search needs
 
--- src/lib.rt:210:60
 slice-aggregate-run-2 : tie.Need-slice-aggregate-run-2
 slice-aggregate-run-2 c = search needs
 
--- src/lib.rt:210:9
 run-requires : tie.Need-run-requires
 run-requires c κs = search needs
 
--- src/lib.rt:213:16
 array-read-code : tie.Need-array-read-code
 array-read-code c = search needs
 
--- src/lib.rt:192:1
 same-length : tie.Need-same-length
 same-length c = search needs
 
--- src/lib.rt:192:1
 same-length-2 : tie.Need-same-length-2
 same-length-2 c = search needs
 
--- src/lib.rt:192:1
 returns : tie.Need-returns
 returns c = let a = c .before .before .before .before .before .before .before .before .before .before .before .before .before .before .args in ap codedLeft (c .before .before .before .before .before .before .before .run .ensures) ∙ one-call (machineIn (now (a .memory)) (now (a .store)) (a .state) (a .cp15)) (a .kind) (a .privileged) (a .n) (a .a) (a .v)
 

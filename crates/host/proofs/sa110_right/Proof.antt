@@ -6,15 +6,12 @@ use Rattle.host.proofs.sa110_right.Reads as reads
 use Rattle.host.proofs.sa110_right.Lts as lts
 use Rattle.rights.proofs.entry.Reads as entry-reads
 
--- src/lib.rt:55:9
 entry-requires : tie.Need-entry-requires
 entry-requires c κs = search needs
 
--- src/lib.rt:50:1
 returns : tie.Need-returns
 returns c = rw (lt-ltb _ _ (c .before .if1 .taken)) (c .entry .ensures)
 
--- src/lib.rt:50:1
 returns-2 : tie.Need-returns-2
 returns-2 c = rw (le-ltb _ _ (c .if1 .left))
 

@@ -9,35 +9,27 @@ use Rattle.host.proofs.sa110_sound.Lts as lts
 use Rattle.sound.proofs.sound.Reads as sound-reads
 use Rattle.values.proofs.bit_number.Reads as bit-number-reads
 
--- src/lib.rt:123:9
 returns : tie.Need-returns
 returns c = λ memory store size e. unfit-entries _ memory store size (c .if1 .taken)
 
--- src/lib.rt:126:9
 returns-2 : tie.Need-returns-2
 returns-2 c = λ memory store size e. unfit-lines _ memory store size (c .before .if1 .left) (c .if2 .taken)
 
--- src/lib.rt:129:9
 returns-3 : tie.Need-returns-3
 returns-3 c = λ memory store size e. unfit-pointers _ memory store size (c .before .before .if1 .left) (c .before .if2 .left) (c .if3 .taken)
 
--- src/lib.rt:132:9
 returns-4 : tie.Need-returns-4
 returns-4 c = λ memory store size e. unfit-words _ memory store size (c .before .before .before .if1 .left) (c .before .before .if2 .left) (c .before .if3 .left) (c .if4 .taken)
 
--- src/lib.rt:135:9
 returns-5 : tie.Need-returns-5
 returns-5 c = λ memory store size e. unfit-bytes _ memory store size (c .before .before .before .before .if1 .left) (c .before .before .before .if2 .left) (c .before .before .if3 .left) (c .before .if4 .left) (c .if5 .taken)
 
--- src/lib.rt:155:24
 sound-requires : tie.Need-sound-requires
 sound-requires c κs = search needs
 
--- src/lib.rt:155:5
 bit-number-requires : tie.Need-bit-number-requires
 bit-number-requires c κs = search needs
 
--- src/lib.rt:105:1
 returns-6 : tie.Need-returns-6
 returns-6 c = λ memory store size e. c .bit-number .ensures .0 ∙ ap number (c .before .sound .ensures memory store size e) ∙ fit _ memory store size (c .before .before .before .before .before .before .if1 .left) (c .before .before .before .before .before .if2 .left) (c .before .before .before .before .if3 .left) (c .before .before .before .if4 .left) (c .before .before .if5 .left)
 

@@ -8,19 +8,15 @@ use Rattle.host.proofs.sa110_walk.Lts as lts
 use Rattle.host.proofs.mapping_code.Reads as mapping-code-reads
 use Rattle.walk.proofs.walk.Reads as walk-reads
 
--- src/lib.rt:77:32
 mul-walk : tie.Need-mul-walk
 mul-walk c = search needs
 
--- src/lib.rt:77:9
 walk-requires : tie.Need-walk-requires
 walk-requires c κs = search needs
 
--- src/lib.rt:78:5
 mapping-code-requires : tie.Need-mapping-code-requires
 mapping-code-requires c κs = search needs
 
--- src/lib.rt:73:1
 returns : tie.Need-returns
 returns c = c .mapping-code .ensures ∙ ap mappingCode (c .before .walk .ensures .same)
 

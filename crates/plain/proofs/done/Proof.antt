@@ -14,78 +14,60 @@ use Rattle.plain.proofs.read.Reads as read-reads
 use Rattle.plain.proofs.store.Reads as store-reads
 use Rattle.plain.proofs.write.Reads as write-reads
 
--- src/lib.rt:199:20
 enum-known-c : tie.Need-enum-known-c
 enum-known-c c = search needs
 
--- src/lib.rt:199:26
 load-requires : tie.Need-load-requires
 load-requires c κs = (c .before .before .before .before .before .pre .0, c .before .before .before .before .before .pre .1, load-accepted (c .before .before .c .given .0 .0) (rw (c .before .before .c .given .1) at (c .before .before .before .before .before .pre .2)))
 
--- src/lib.rt:200:26
 enum-known-c-2 : tie.Need-enum-known-c-2
 enum-known-c-2 c = search needs
 
--- src/lib.rt:200:32
 load-requires-2 : tie.Need-load-requires-2
 load-requires-2 c κs = (c .before .before .before .before .before .pre .0, c .before .before .before .before .before .pre .1, load-accepted (c .before .before .c2 .given .0 .0) (rw (c .before .before .c2 .given .1) at (c .before .before .before .before .before .pre .2)))
 
--- src/lib.rt:201:21
 enum-known-c-3 : tie.Need-enum-known-c-3
 enum-known-c-3 c = search needs
 
--- src/lib.rt:201:30
 store-requires : tie.Need-store-requires
 store-requires c κs = (c .before .before .before .before .before .pre .0, c .before .before .before .before .before .pre .1, store-accepted (c .before .before .c3 .given .0 .0) (c .before .before .c3 .given .0 .1 .0) (rw (c .before .before .c3 .given .1) at (c .before .before .before .before .before .pre .2)))
 
--- src/lib.rt:202:20
 enum-known-c-4 : tie.Need-enum-known-c-4
 enum-known-c-4 c = search needs
 
--- src/lib.rt:202:26
 read-requires : tie.Need-read-requires
 read-requires c κs = search needs
 
--- src/lib.rt:203:21
 enum-known-c-5 : tie.Need-enum-known-c-5
 enum-known-c-5 c = search needs
 
--- src/lib.rt:203:30
 write-requires : tie.Need-write-requires
 write-requires c κs = search needs
 
--- src/lib.rt:194:1
 same-length : tie.Need-same-length
 same-length c = search needs
 
--- src/lib.rt:194:1
 returns : tie.Need-returns
 returns c = rw (c .before .before .before .c .given .1) (c .load .ensures)
 
--- src/lib.rt:194:1
 same-length-2 : tie.Need-same-length-2
 same-length-2 c = search needs
 
--- src/lib.rt:194:1
 returns-2 : tie.Need-returns-2
 returns-2 c = rw (c .before .before .before .c2 .given .1) (c .load2 .ensures)
 
--- src/lib.rt:194:1
 same-length-3 : tie.Need-same-length-3
 same-length-3 c = search needs
 
--- src/lib.rt:194:1
 returns-3 : tie.Need-returns-3
 returns-3 c = rw (c .before .before .before .before .before .c3 .given .1) (c .before .before .store .ensures)
 
--- src/lib.rt:194:1
 returns-4 : tie.Need-returns-4
 unfolding plainRead
 returns-4 c = let a = c .before .before .before .before .before .args in
     let e = c .read .ensures (now (a .memory)) in
     rw (c .before .before .c4 .given .1) (record { same = e; kept = subst (λ (x : PlainStepped). Kept (x .plain)) (sym e) (c .before .before .before .before .before .pre .1) })
 
--- src/lib.rt:194:1
 returns-5 : tie.Need-returns-5
 returns-5 c = let a = c .before .before .before .before .before .args in
     let e = c .write .ensures (now (a .memory)) in

@@ -6,11 +6,9 @@ use Rattle.plain.proofs.faulted.Reads as reads
 use Rattle.plain.proofs.faulted.Lts as lts
 use Rattle.translation.proofs.fault_set.Reads as fault-set-reads
 
--- src/lib.rt:50:9
 fault-set-requires : tie.Need-fault-set-requires
 fault-set-requires c κs = search needs
 
--- src/lib.rt:40:1
 returns : tie.Need-returns
 unfolding plainFaulted
 returns c = λ m. rw (c .fault-set .ensures)

@@ -12,33 +12,26 @@ use Rattle.plain.proofs.faulted.Reads as faulted-reads
 use Rattle.plain.proofs.load_passed.Reads as load-passed-reads
 use Rattle.plain.proofs.reach.Reads as reach-reads
 
--- src/lib.rt:121:9
 reach-requires : tie.Need-reach-requires
 reach-requires c κs = search needs
 
--- src/lib.rt:123:25
 enum-known-c : tie.Need-enum-known-c
 enum-known-c c = search needs
 
--- src/lib.rt:123:31
 load-passed-requires : tie.Need-load-passed-requires
 load-passed-requires c κs = (c .before .before .before .before .before .before .pre .1, c .before .before .before .before .before .before .pre .2, rw (c .before .c .given .1) at (c .before .before .before .reach .ensures .ranged))
 
--- src/lib.rt:124:25
 enum-known-c-2 : tie.Need-enum-known-c-2
 enum-known-c-2 c = search needs
 
--- src/lib.rt:124:39
 faulted-requires : tie.Need-faulted-requires
 faulted-requires c κs = rw (c .before .c2 .given .1) at (c .before .before .before .reach .ensures .ranged)
 
--- src/lib.rt:116:1
 returns : tie.Need-returns
 returns c = let a = c .before .before .before .before .before .before .before .args in
     let p = plainOf (now (a .memory)) (a .s) in
     rw (load-by p (a .a) _ (a .signed) (sym (c .before .before .before .before .reach .ensures .same) ∙ c .before .before .c .given .1)) (c .load-passed .ensures)
 
--- src/lib.rt:116:1
 returns-2 : tie.Need-returns-2
 unfolding plainLoadAt
 returns-2 c = let a = c .before .before .before .before .before .before .before .args in

@@ -12,21 +12,17 @@ use Rattle.plain.proofs.load_inside.Lts as lts
 use Rattle.translation.proofs.load_answer.Reads as load-answer-reads
 use Rattle.words.proofs.load.Reads as load-reads
 
--- src/lib.rt:91:33
 cast-load : tie.Need-cast-load
 cast-load c = search needs
 
--- src/lib.rt:91:9
 load-requires : tie.Need-load-requires
 load-requires c κs = let a = c .before .before .before .args in
     let i = c .before .before .before .pre in
     (i .width, access-fits (a .a) (a .p .address .0) (length (now (a .memory))) (i .width) (i .place .within) (i .inside) (i .whole))
 
--- src/lib.rt:92:5
 load-answer-requires : tie.Need-load-answer-requires
 load-answer-requires c κs = (c .before .before .before .before .pre .width, c .load .ensures .fits)
 
--- src/lib.rt:86:1
 returns : tie.Need-returns
 returns c = let a = c .before .before .before .before .before .args in
     c .load-answer .ensures ∙ ap (λ (v : ℕ). loadAnswer (a .signed) (a .a .width) v) (c .before .load .ensures .value)

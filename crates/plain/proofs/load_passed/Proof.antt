@@ -19,15 +19,12 @@ use Rattle.translation.proofs.fill_status.Reads as fill-status-reads
 use Rattle.translation.proofs.fills.Reads as fills-reads
 use Rattle.translation.proofs.other_status.Reads as other-status-reads
 
--- src/lib.rt:103:9
 cast-if1 : tie.Need-cast-if1
 cast-if1 c = search needs
 
--- src/lib.rt:106:21
 load-inside-requires : tie.Need-load-inside-requires
 load-inside-requires c κs = let k = c .before .before .before .before .before .before .pre in record { width = k .1; place = k .2; inside = c .if1 .taken; whole = k .0 .whole }
 
--- src/lib.rt:104:9
 returns : tie.Need-returns
 returns c = let a = c .before .before .before .before .before .before .before .args in
     let p = plainOf (now (a .memory)) (a .s) in
@@ -36,34 +33,27 @@ returns c = let a = c .before .before .before .before .before .before .before .a
       kept = c .before .before .before .before .before .before .before .pre .0;
     }
 
--- src/lib.rt:109:8
 fills-requires : tie.Need-fills-requires
 fills-requires c κs = search needs
 
--- src/lib.rt:110:27
 fill-status-requires : tie.Need-fill-status-requires
 fill-status-requires c κs = search needs
 
--- src/lib.rt:110:9
 faulted-requires : tie.Need-faulted-requires
 faulted-requires c κs = c .before .before .before .before .before .before .before .before .before .pre .2 .domain
 
--- src/lib.rt:110:9
 returns-2 : tie.Need-returns-2
 returns-2 c = let a = c .before .before .before .before .before .before .before .before .before .before .args in
     let p = plainOf (now (a .memory)) (a .s) in
     let f : fills (a .s .registers) (a .p) ≡ true = sym (c .before .before .before .fills .ensures) ∙ c .before .before .if2 .taken in
     fault-steps p (c .before .before .before .before .before .before .before .before .before .before .pre .0) _ _ _ _ (a .p .domain) (a .a .address) (c .faulted .ensures (now (a .memory))) (c .before .fill-status .ensures) (load-fill p (a .a) (a .p) (a .signed) (c .before .before .before .before .if1 .left) f)
 
--- src/lib.rt:112:16
 other-status-requires : tie.Need-other-status-requires
 other-status-requires c κs = search needs
 
--- src/lib.rt:112:5
 faulted-requires-2 : tie.Need-faulted-requires-2
 faulted-requires-2 c κs = c .before .before .before .before .before .before .before .before .before .pre .2 .domain
 
--- src/lib.rt:96:1
 returns-3 : tie.Need-returns-3
 returns-3 c = let a = c .before .before .before .before .before .before .before .before .before .before .args in
     let p = plainOf (now (a .memory)) (a .s) in

@@ -10,22 +10,18 @@ use Rattle.plain.proofs.reach.Lts as lts
 use Rattle.plain.proofs.translate.Reads as translate-reads
 use Rattle.translation.proofs.faults_alignment.Reads as faults-alignment-reads
 
--- src/lib.rt:67:8
 faults-alignment-requires : tie.Need-faults-alignment-requires
 faults-alignment-requires c κs = search needs
 
--- src/lib.rt:68:9
 returns : tie.Need-returns
 unfolding plainReach
 returns c = let a = c .before .before .before .before .args in
     let e : alignmentFaults (a .s .registers) (a .a) ≡ true = sym (c .before .faults-alignment .ensures) ∙ c .if1 .taken in
     record { same = rw e; ranged = search needs }
 
--- src/lib.rt:70:5
 translate-requires : tie.Need-translate-requires
 translate-requires c κs = search needs
 
--- src/lib.rt:62:1
 returns-2 : tie.Need-returns-2
 unfolding plainReach
 returns-2 c = let a = c .before .before .before .before .before .args in

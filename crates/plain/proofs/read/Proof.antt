@@ -6,11 +6,9 @@ use Rattle.plain.proofs.read.Reads as reads
 use Rattle.plain.proofs.read.Lts as lts
 use Rattle.registers.proofs.read.Reads as read-reads
 
--- src/lib.rt:173:31
 read-requires : tie.Need-read-requires
 read-requires c κs = search needs
 
--- src/lib.rt:166:1
 returns : tie.Need-returns
 unfolding plainRead
 returns c = λ m. rw (c .read .ensures)

@@ -21,77 +21,60 @@ Inv-loop table memory₀ calls answers₀ n s₀ i₀ memory answers s i = Going
 abbrev μ-loop : tie.MeasureT-loop
 μ-loop table memory₀ calls answers₀ n s₀ i₀ memory answers s i = n - i
 
--- src/lib.rt:268:9
 zero-state-requires : tie.Need-zero-state-requires Inv-loop μ-loop
 zero-state-requires c κs = search needs
 
--- src/lib.rt:270:5
 loop-holds : tie.Need-loop-holds Inv-loop μ-loop
 loop-holds c = let a = c .before .before .before .before .args in
     going-start (now (a .memory)) (now (a .calls)) (now (a .answers)) (a .n) (c .before .before .before .before .pre .1) (c .zero-state .result) (c .zero-state .ensures (now (a .memory)))
 
--- src/lib.rt:271:13
 is-call-at-requires : tie.Need-is-call-at-requires Inv-loop μ-loop
 is-call-at-requires c κs = omega (arith, c .before .before .before .before .before .before .pre .1 .held .calls-hold)
 
--- src/lib.rt:272:13
 same-length : tie.Need-same-length Inv-loop μ-loop
 same-length c = c .before .before .before .loop .inv .memory-long
 
--- src/lib.rt:272:13
 same-length-2 : tie.Need-same-length-2 Inv-loop μ-loop
 same-length-2 c = c .before .before .before .loop .inv .long
 
--- src/lib.rt:272:13
 returns : tie.Need-returns Inv-loop μ-loop
 returns c = let a = c .before .before .before .before .before .before .before .before .args in
     let l = c .before .before .before .loop in
     going-stop (now (a .memory)) (now (a .calls)) (now (a .answers)) (a .n) (c .before .before .before .before .before .before .before .before .pre .1) (l .memory) (l .answers) (l .s) (l .i) (l .inv) (c .before .before .loop-test .taken) (sym (c .before .is-call-at .ensures) ∙ not-true _ (c .if1 .taken))
 
--- src/lib.rt:278:13
 call-at-requires : tie.Need-call-at-requires Inv-loop μ-loop
 call-at-requires c κs = omega (arith, c .before .before .before .before .before .before .before .before .pre .1 .held .calls-hold)
 
--- src/lib.rt:279:13
 step-requires : tie.Need-step-requires Inv-loop μ-loop
 step-requires c κs = (c .before .before .before .before .before .before .before .before .before .before .pre .0, c .before .before .before .before .before .loop .inv .kept)
 
--- src/lib.rt:281:22
 code-requires : tie.Need-code-requires Inv-loop μ-loop
 code-requires c κs = search needs
 
--- src/lib.rt:281:9
 mul-answers : tie.Need-mul-answers Inv-loop μ-loop
 mul-answers c = omega (arith, c .before .before .before .before .before .before .before .before .before .before .before .before .before .before .good .1 .1 .1 .0, c .before .before .before .before .before .before .before .before .before .before .before .before .before .before .pre .1 .held .answers-hold)
 
--- src/lib.rt:281:9
 slice-write-answers : tie.Need-slice-write-answers Inv-loop μ-loop
 slice-write-answers c = omega (arith, c .before .before .before .before .before .before .before .before .before .before .before .before .before .before .pre .1 .held .answers-hold, c .before .before .before .before .before .before .before .before .before .loop .inv .long)
 
--- src/lib.rt:284:9
 add-i : tie.Need-add-i Inv-loop μ-loop
 add-i c = omega (arith, c .before .before .before .before .before .before .before .before .before .before .before .before .before .before .before .fits .n)
 
--- src/lib.rt:270:5
 loop-less : tie.Need-loop-less Inv-loop μ-loop
 loop-less c = omega arith
 
--- src/lib.rt:270:5
 loop-again : tie.Need-loop-again Inv-loop μ-loop
 loop-again c = let a = c .before .before .before .before .before .before .before .before .before .before .before .before .before .before .before .args in
     let l = c .before .before .before .before .before .before .before .before .before .before .loop in
     let st = c .before .before .before .before .step in
     going-on (now (a .memory)) (now (a .calls)) (now (a .answers)) (a .n) (c .before .before .before .before .before .before .before .before .before .before .before .before .before .before .before .pre .1) (l .memory) (l .answers) (l .s) (l .i) (l .inv) (st .last .1 .0) (st .result) (c .before .before .before .before .before .before .call-at .result) (c .before .code .result) (c .before .before .before .before .before .before .before .before .before .loop-test .taken) (sym (c .before .before .before .before .before .before .before .before .is-call-at .ensures) ∙ not-false _ (c .before .before .before .before .before .before .before .if1 .left)) (c .before .before .before .before .before .before .call-at .ensures) (st .ensures) (st .kept .1 .0) (c .before .code .ensures)
 
--- src/lib.rt:256:1
 same-length-3 : tie.Need-same-length-3 Inv-loop μ-loop
 same-length-3 c = c .before .loop .inv .memory-long
 
--- src/lib.rt:256:1
 same-length-4 : tie.Need-same-length-4 Inv-loop μ-loop
 same-length-4 c = c .before .loop .inv .long
 
--- src/lib.rt:256:1
 returns-2 : tie.Need-returns-2 Inv-loop μ-loop
 returns-2 c = let a = c .before .before .before .before .before .before .args in
     let l = c .before .loop in

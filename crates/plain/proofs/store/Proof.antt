@@ -12,41 +12,32 @@ use Rattle.plain.proofs.faulted.Reads as faulted-reads
 use Rattle.plain.proofs.reach.Reads as reach-reads
 use Rattle.plain.proofs.store_passed.Reads as store-passed-reads
 
--- src/lib.rt:158:9
 reach-requires : tie.Need-reach-requires
 reach-requires c κs = search needs
 
--- src/lib.rt:160:25
 enum-known-c : tie.Need-enum-known-c
 enum-known-c c = search needs
 
--- src/lib.rt:160:31
 store-passed-requires : tie.Need-store-passed-requires
 store-passed-requires c κs = (c .before .before .before .before .before .before .before .before .pre .1, c .before .before .before .before .before .before .before .before .pre .2, rw (c .before .before .c .given .1) at (c .before .before .before .before .reach .ensures .ranged))
 
--- src/lib.rt:161:25
 enum-known-c-2 : tie.Need-enum-known-c-2
 enum-known-c-2 c = search needs
 
--- src/lib.rt:161:39
 faulted-requires : tie.Need-faulted-requires
 faulted-requires c κs = rw (c .before .c2 .given .1) at (c .before .before .before .reach .ensures .ranged)
 
--- src/lib.rt:153:1
 same-length : tie.Need-same-length
 same-length c = search needs
 
--- src/lib.rt:153:1
 returns : tie.Need-returns
 returns c = let a = c .before .before .before .before .before .before .before .before .before .before .before .args in
     let p = plainOf (now (a .memory)) (a .s) in
     rw (store-by p (a .a) _ (a .v) (sym (c .before .before .before .before .before .before .before .reach .ensures .same) ∙ c .before .before .before .before .before .c .given .1)) (c .before .before .store-passed .ensures)
 
--- src/lib.rt:153:1
 same-length-2 : tie.Need-same-length-2
 same-length-2 c = search needs
 
--- src/lib.rt:153:1
 returns-2 : tie.Need-returns-2
 unfolding plainStoreAt
 returns-2 c = let a = c .before .before .before .before .before .before .before .before .args in

@@ -22,25 +22,20 @@ use Rattle.translation.proofs.buffers.Reads as buffers-reads
 use Rattle.translation.proofs.other_status.Reads as other-status-reads
 use Rattle.words.proofs.store.Reads as store-reads
 
--- src/lib.rt:136:9
 cast-if1 : tie.Need-cast-if1
 cast-if1 c = search needs
 
--- src/lib.rt:137:30
 cast-store : tie.Need-cast-store
 cast-store c = search needs
 
--- src/lib.rt:137:9
 store-requires : tie.Need-store-requires
 store-requires c κs = let a = c .before .before .before .before .before .before .before .before .args in
     let k = c .before .before .before .before .before .before .before .before .pre in
     (k .1, access-fits (a .a) (a .p .address .0) (length (now (a .memory))) (k .1) (k .2 .within) (c .before .before .if1 .taken) (k .0 .whole))
 
--- src/lib.rt:138:9
 same-length : tie.Need-same-length
 same-length c = search needs
 
--- src/lib.rt:138:9
 returns : tie.Need-returns
 returns c = let a = c .before .before .before .before .before .before .before .before .before .before .before .args in
     let p = plainOf (now (a .memory)) (a .s) in
@@ -50,26 +45,21 @@ returns c = let a = c .before .before .before .before .before .before .before .b
       kept = subst (λ (l : List ℕ). Kept (plainOf l (a .s))) (sym e) (keep-stored p (c .before .before .before .before .before .before .before .before .before .before .before .pre .0) (a .a) (a .v) (a .p));
     }
 
--- src/lib.rt:143:8
 buffers-requires : tie.Need-buffers-requires
 buffers-requires c κs = search needs
 
--- src/lib.rt:144:9
 returns-2 : tie.Need-returns-2
 returns-2 c = let a = c .before .before .before .before .before .before .before .before .args in
     let p = plainOf (now (a .memory)) (a .s) in
     let f : buffers (a .s .registers) (a .p) ≡ true = sym (c .before .buffers .ensures) ∙ c .if2 .taken in
     record { same = sym (store-drop p (a .a) (a .p) (a .v) (c .before .before .if1 .left) f); kept = c .before .before .before .before .before .before .before .before .pre .0 }
 
--- src/lib.rt:149:16
 other-status-requires : tie.Need-other-status-requires
 other-status-requires c κs = search needs
 
--- src/lib.rt:149:5
 faulted-requires : tie.Need-faulted-requires
 faulted-requires c κs = c .before .before .before .before .before .before .before .before .before .pre .2 .domain
 
--- src/lib.rt:129:1
 returns-3 : tie.Need-returns-3
 returns-3 c = let a = c .before .before .before .before .before .before .before .before .before .before .args in
     let p = plainOf (now (a .memory)) (a .s) in

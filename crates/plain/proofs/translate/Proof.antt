@@ -9,19 +9,15 @@ use Rattle.translation.proofs.check.Reads as check-reads
 use Rattle.translation.proofs.cleared.Reads as cleared-reads
 use Rattle.translation.proofs.walked_only.Reads as walked-only-reads
 
--- src/lib.rt:80:9
 cleared-requires : tie.Need-cleared-requires
 cleared-requires c κs = search needs
 
--- src/lib.rt:81:9
 walked-only-requires : tie.Need-walked-only-requires
 walked-only-requires c κs = search needs
 
--- src/lib.rt:82:5
 check-requires : tie.Need-check-requires
 check-requires c κs = search needs
 
--- src/lib.rt:76:1
 returns : tie.Need-returns
 unfolding plainTranslate
 returns c = let a = c .before .before .before .before .args in

@@ -6,11 +6,9 @@ use Rattle.plain.proofs.write.Reads as reads
 use Rattle.plain.proofs.write.Lts as lts
 use Rattle.registers.proofs.written.Reads as written-reads
 
--- src/lib.rt:182:9
 written-requires : tie.Need-written-requires
 written-requires c κs = search needs
 
--- src/lib.rt:178:1
 returns : tie.Need-returns
 unfolding plainWrite
 returns c = λ m. rw (c .written .ensures)

@@ -5,7 +5,6 @@ use Rattle.plain.proofs.zero_state.Tie as tie
 use Rattle.plain.proofs.zero_state.Reads as reads
 use Rattle.plain.proofs.zero_state.Lts as lts
 
--- src/lib.rt:239:1
 returns : tie.Need-returns
 unfolding plainStart
 returns c = λ m. refl

@@ -8,63 +8,48 @@ use Rattle.registers.proofs.write_refusal.Reads as write-refusal-reads
 use Rattle.translation.proofs.load_refusal.Reads as load-refusal-reads
 use Rattle.translation.proofs.store_refusal.Reads as store-refusal-reads
 
--- src/lib.rt:178:20
 enum-known-c : tie.Need-enum-known-c
 enum-known-c c = search needs
 
--- src/lib.rt:178:26
 load-refusal-requires : tie.Need-load-refusal-requires
 load-refusal-requires c κs = search needs
 
--- src/lib.rt:179:26
 enum-known-c-2 : tie.Need-enum-known-c-2
 enum-known-c-2 c = search needs
 
--- src/lib.rt:179:32
 load-refusal-requires-2 : tie.Need-load-refusal-requires-2
 load-refusal-requires-2 c κs = search needs
 
--- src/lib.rt:180:21
 enum-known-c-3 : tie.Need-enum-known-c-3
 enum-known-c-3 c = search needs
 
--- src/lib.rt:180:30
 store-refusal-requires : tie.Need-store-refusal-requires
 store-refusal-requires c κs = search needs
 
--- src/lib.rt:181:20
 enum-known-c-4 : tie.Need-enum-known-c-4
 enum-known-c-4 c = search needs
 
--- src/lib.rt:181:26
 read-refusal-requires : tie.Need-read-refusal-requires
 read-refusal-requires c κs = search needs
 
--- src/lib.rt:182:21
 enum-known-c-5 : tie.Need-enum-known-c-5
 enum-known-c-5 c = search needs
 
--- src/lib.rt:182:30
 write-refusal-requires : tie.Need-write-refusal-requires
 write-refusal-requires c κs = search needs
 
--- src/lib.rt:174:1
 returns : tie.Need-returns
 returns c = rw (c .before .before .c .given .1) (c .load-refusal .ensures)
 
--- src/lib.rt:174:1
 returns-2 : tie.Need-returns-2
 returns-2 c = rw (c .before .before .c2 .given .1) (c .load-refusal2 .ensures)
 
--- src/lib.rt:174:1
 returns-3 : tie.Need-returns-3
 returns-3 c = rw (c .before .before .c3 .given .1) (c .store-refusal .ensures)
 
--- src/lib.rt:174:1
 returns-4 : tie.Need-returns-4
 returns-4 c = rw (c .before .before .c4 .given .1) (c .read-refusal .ensures)
 
--- src/lib.rt:174:1
 returns-5 : tie.Need-returns-5
 returns-5 c = rw (c .before .before .c5 .given .1) (c .write-refusal .ensures)
 

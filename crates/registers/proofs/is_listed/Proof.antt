@@ -6,19 +6,15 @@ use Rattle.registers.proofs.is_listed.Tie as tie
 use Rattle.registers.proofs.is_listed.Reads as reads
 use Rattle.registers.proofs.is_listed.Lts as lts
 
--- src/lib.rt:24:13
 returns : tie.Need-returns
 returns c = sym (listed-all _ (eq-eqb _ _ (c .before .if1 .taken)) (eq-eqb _ _ (c .if2 .taken)))
 
--- src/lib.rt:26:9
 returns-2 : tie.Need-returns-2
 returns-2 c = sym (listed-mmu _ (eq-eqb _ _ (c .before .if1 .taken)) (ne-eqb _ _ (c .if2 .left)))
 
--- src/lib.rt:29:9
 returns-3 : tie.Need-returns-3
 returns-3 c = sym (listed-cache _ (ne-eqb _ _ (c .before .if1 .left)) (eq-eqb _ _ (c .if3 .taken)))
 
--- src/lib.rt:19:1
 returns-4 : tie.Need-returns-4
 returns-4 c = sym (listed-none _ (ne-eqb _ _ (c .before .if1 .left)) (ne-eqb _ _ (c .if3 .left)))
 

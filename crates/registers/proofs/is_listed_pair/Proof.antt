@@ -9,30 +9,24 @@ use Rattle.registers.proofs.is_listed_pair.Lts as lts
 use Rattle.registers.proofs.is_seven_pair.Reads as is-seven-pair-reads
 use Rattle.registers.proofs.is_pair.Reads as is-pair-reads
 
--- src/lib.rt:92:8
 is-pair-requires : tie.Need-is-pair-requires
 is-pair-requires c κs = search needs
 
--- src/lib.rt:93:9
 returns : tie.Need-returns
 returns c = let t = c .before .before .args .t in let p : isPair t 0 7 ≡ true = sym (c .before .is-pair .ensures) ∙ c .if1 .taken in rw p
 
--- src/lib.rt:95:8
 is-pair-requires-2 : tie.Need-is-pair-requires-2
 is-pair-requires-2 c κs = search needs
 
--- src/lib.rt:96:9
 returns-2 : tie.Need-returns-2
 returns-2 c = let t = c .before .before .before .before .args .t in
     let p : isPair t 0 7 ≡ false = sym (c .before .before .before .is-pair .ensures) ∙ c .before .before .if1 .left in
     let q : isPair t 0 6 ≡ true = sym (c .before .is-pair2 .ensures) ∙ c .if2 .taken in
     rw (p, q)
 
--- src/lib.rt:98:8
 is-pair-requires-3 : tie.Need-is-pair-requires-3
 is-pair-requires-3 c κs = search needs
 
--- src/lib.rt:99:9
 returns-3 : tie.Need-returns-3
 returns-3 c = let t = c .before .before .before .before .before .before .args .t in
     let p : isPair t 0 7 ≡ false = sym (c .before .before .before .before .before .is-pair .ensures) ∙ c .before .before .before .before .if1 .left in
@@ -40,11 +34,9 @@ returns-3 c = let t = c .before .before .before .before .before .before .args .t
     let s : isPair t 0 5 ≡ true = sym (c .before .is-pair3 .ensures) ∙ c .if3 .taken in
     rw (p, q, s)
 
--- src/lib.rt:101:8
 is-pair-requires-4 : tie.Need-is-pair-requires-4
 is-pair-requires-4 c κs = search needs
 
--- src/lib.rt:102:9
 returns-4 : tie.Need-returns-4
 returns-4 c = let t = c .before .before .before .before .before .before .before .before .args .t in
     let p : isPair t 0 7 ≡ false = sym (c .before .before .before .before .before .before .before .is-pair .ensures) ∙ c .before .before .before .before .before .before .if1 .left in
@@ -53,11 +45,9 @@ returns-4 c = let t = c .before .before .before .before .before .before .before 
     let u : isPair t 1 6 ≡ true = sym (c .before .is-pair4 .ensures) ∙ c .if4 .taken in
     rw (p, q, s, u)
 
--- src/lib.rt:104:5
 is-seven-pair-requires : tie.Need-is-seven-pair-requires
 is-seven-pair-requires c κs = search needs
 
--- src/lib.rt:89:1
 returns-5 : tie.Need-returns-5
 returns-5 c = let t = c .before .before .before .before .before .before .before .before .before .args .t in
     let p : isPair t 0 7 ≡ false = sym (c .before .before .before .before .before .before .before .before .is-pair .ensures) ∙ c .before .before .before .before .before .before .before .if1 .left in

@@ -4,11 +4,9 @@ use Rattle.registers.proofs.is_pair.Tie as tie
 use Rattle.registers.proofs.is_pair.Reads as reads
 use Rattle.registers.proofs.is_pair.Lts as lts
 
--- src/lib.rt:83:9
 returns : tie.Need-returns
 returns c = rw (eq-eqb _ _ (c .before .if1 .taken))
 
--- src/lib.rt:79:1
 returns-2 : tie.Need-returns-2
 returns-2 c = rw (ne-eqb _ _ (c .if1 .left))
 

@@ -9,27 +9,22 @@ use Rattle.registers.proofs.is_seven_pair.Reads as reads
 use Rattle.registers.proofs.is_seven_pair.Lts as lts
 use Rattle.registers.proofs.is_pair.Reads as is-pair-reads
 
--- src/lib.rt:112:12
 is-pair-requires : tie.Need-is-pair-requires
 is-pair-requires c κs = search needs
 
--- src/lib.rt:113:13
 returns : tie.Need-returns
 returns c = let t = c .before .before .before .before .args .t in
     let p : isPair t 1 10 ≡ true = sym (c .before .is-pair .ensures) ∙ c .if2 .taken in
     rw (eq-eqb _ _ (c .before .before .if1 .taken), p)
 
--- src/lib.rt:115:9
 is-pair-requires-2 : tie.Need-is-pair-requires-2
 is-pair-requires-2 c κs = search needs
 
--- src/lib.rt:115:9
 returns-2 : tie.Need-returns-2
 returns-2 c = let t = c .before .before .before .before .before .args .t in
     let p : isPair t 1 10 ≡ false = sym (c .before .before .is-pair .ensures) ∙ c .before .if2 .left in
     rw (eq-eqb _ _ (c .before .before .before .if1 .taken), p) (c .is-pair2 .ensures)
 
--- src/lib.rt:108:1
 returns-3 : tie.Need-returns-3
 returns-3 c = rw (ne-eqb _ _ (c .if1 .left))
 

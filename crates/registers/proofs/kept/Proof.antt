@@ -6,23 +6,18 @@ use Rattle.registers.proofs.kept.Tie as tie
 use Rattle.registers.proofs.kept.Reads as reads
 use Rattle.registers.proofs.kept.Lts as lts
 
--- src/lib.rt:15:14
 mul-result : tie.Need-mul-result
 mul-result c = search needs
 
--- src/lib.rt:15:5
 add-result : tie.Need-add-result
 add-result c = search needs
 
--- src/lib.rt:15:34
 mul-result-2 : tie.Need-mul-result-2
 mul-result-2 c = search needs
 
--- src/lib.rt:15:5
 add-result-2 : tie.Need-add-result-2
 add-result-2 c = search needs
 
--- src/lib.rt:12:1
 returns : tie.Need-returns
 unfolding kept
 returns c = refl

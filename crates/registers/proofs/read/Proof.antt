@@ -7,41 +7,33 @@ use Rattle.registers.proofs.read.Tie as tie
 use Rattle.registers.proofs.read.Reads as reads
 use Rattle.registers.proofs.read.Lts as lts
 
--- src/lib.rt:40:9
 returns : tie.Need-returns
 unfolding readOf
 returns c = rw (c .if1 .taken)
 
--- src/lib.rt:43:16
 add-result : tie.Need-add-result
 add-result c = search needs
 
--- src/lib.rt:43:9
 returns-2 : tie.Need-returns-2
 unfolding readOf controlRead
 returns-2 c = rw (c .before .if2 .taken)
 
--- src/lib.rt:46:9
 returns-3 : tie.Need-returns-3
 unfolding readOf
 returns-3 c = rw (c .if3 .taken)
 
--- src/lib.rt:49:9
 returns-4 : tie.Need-returns-4
 unfolding readOf
 returns-4 c = rw (c .if4 .taken)
 
--- src/lib.rt:52:9
 returns-5 : tie.Need-returns-5
 unfolding readOf
 returns-5 c = rw (c .if5 .taken)
 
--- src/lib.rt:55:9
 returns-6 : tie.Need-returns-6
 unfolding readOf
 returns-6 c = rw (c .if6 .taken)
 
--- src/lib.rt:35:1
 returns-7 : tie.Need-returns-7
 unfolding readOf
 returns-7 c = rw (ne-eqb _ _ (c .before .before .before .before .before .if1 .left), ne-eqb _ _ (c .before .before .before .before .if2 .left), ne-eqb _ _ (c .before .before .before .if3 .left), ne-eqb _ _ (c .before .before .if4 .left), ne-eqb _ _ (c .before .if5 .left), ne-eqb _ _ (c .if6 .left))

@@ -5,15 +5,12 @@ use Rattle.registers.proofs.read_refusal.Tie as tie
 use Rattle.registers.proofs.read_refusal.Reads as reads
 use Rattle.registers.proofs.read_refusal.Lts as lts
 
--- src/lib.rt:121:1
 returns : tie.Need-returns
 returns c = rw (c .before .before .if1 .taken, le-leb _ _ (c .if2 .taken))
 
--- src/lib.rt:121:1
 returns-2 : tie.Need-returns-2
 returns-2 c = rw (c .before .before .if1 .taken, lt-leb _ _ (c .if2 .left))
 
--- src/lib.rt:121:1
 returns-3 : tie.Need-returns-3
 returns-3 c = search needs
 

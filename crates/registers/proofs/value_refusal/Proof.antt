@@ -12,43 +12,35 @@ use Rattle.registers.proofs.value_refusal.Lts as lts
 use Rattle.registers.proofs.is_listed.Reads as is-listed-reads
 use Rattle.registers.proofs.is_listed_pair.Reads as is-listed-pair-reads
 
--- src/lib.rt:140:12
 is-listed-pair-requires : tie.Need-is-listed-pair-requires
 is-listed-pair-requires c κs = search needs
 
--- src/lib.rt:141:13
 returns : tie.Need-returns
 returns c = let t = c .before .before .before .before .args .t in
     let p : listedPair t ≡ true = sym (c .before .is-listed-pair .ensures) ∙ c .if2 .taken in
     rw (le-leb _ _ (c .before .before .if1 .taken), p, ne-eqb (t .register) 1 (omega arith))
 
--- src/lib.rt:143:9
 returns-2 : tie.Need-returns-2
 returns-2 c = let t = c .before .before .before .before .args .t in
     let p : listedPair t ≡ false = sym (c .before .is-listed-pair .ensures) ∙ c .if2 .left in
     rw (le-leb _ _ (c .before .before .if1 .taken), p)
 
--- src/lib.rt:147:13
 returns-3 : tie.Need-returns-3
 returns-3 c = let t = c .before .before .before .before .before .args .t in rw (c .before .if3 .taken, c .if4 .taken)
 
--- src/lib.rt:149:12
 is-listed-requires : tie.Need-is-listed-requires
 is-listed-requires c κs = search needs
 
--- src/lib.rt:150:13
 returns-4 : tie.Need-returns-4
 returns-4 c = let a = c .before .before .before .before .before .before .before .args in
     let p : listed (a .v) ≡ true = sym (c .before .is-listed .ensures) ∙ c .if5 .taken in
     rw (c .before .before .before .if3 .taken, ne-eqb _ _ (c .before .before .if4 .left), p)
 
--- src/lib.rt:152:9
 returns-5 : tie.Need-returns-5
 returns-5 c = let a = c .before .before .before .before .before .before .before .args in
     let p : listed (a .v) ≡ false = sym (c .before .is-listed .ensures) ∙ c .if5 .left in
     rw (c .before .before .before .if3 .taken, ne-eqb _ _ (c .before .before .if4 .left), p)
 
--- src/lib.rt:136:1
 returns-6 : tie.Need-returns-6
 returns-6 c = rw (lt-leb _ _ (c .before .before .if1 .left), ne-eqb _ _ (c .if3 .left))
 

@@ -6,23 +6,18 @@ use Rattle.registers.proofs.write_refusal.Reads as reads
 use Rattle.registers.proofs.write_refusal.Lts as lts
 use Rattle.registers.proofs.value_refusal.Reads as value-refusal-reads
 
--- src/lib.rt:164:17
 value-refusal-requires : tie.Need-value-refusal-requires
 value-refusal-requires c κs = search needs
 
--- src/lib.rt:164:17
 returns : tie.Need-returns
 returns c = rw (c .before .before .before .before .before .if1 .taken, le-leb _ _ (c .before .before .before .if2 .taken), le-leb _ _ (c .before .if3 .taken)) (c .value-refusal .ensures)
 
--- src/lib.rt:166:13
 returns-2 : tie.Need-returns-2
 returns-2 c = rw (c .before .before .before .before .if1 .taken, le-leb _ _ (c .before .before .if2 .taken), lt-leb _ _ (c .if3 .left))
 
--- src/lib.rt:168:9
 returns-3 : tie.Need-returns-3
 returns-3 c = rw (c .before .before .if1 .taken, lt-leb _ _ (c .if2 .left))
 
--- src/lib.rt:158:1
 returns-4 : tie.Need-returns-4
 returns-4 c = search needs
 

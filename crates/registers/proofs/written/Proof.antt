@@ -8,40 +8,32 @@ use Rattle.registers.proofs.written.Reads as reads
 use Rattle.registers.proofs.written.Lts as lts
 use Rattle.registers.proofs.kept.Reads as kept-reads
 
--- src/lib.rt:56:9
 kept-requires : tie.Need-kept-requires
 kept-requires c κs = search needs
 
--- src/lib.rt:57:9
 returns : tie.Need-returns
 unfolding writtenOf
 returns c = rw (c .before .if1 .taken, c .kept .ensures)
 
--- src/lib.rt:60:18
 mul-s : tie.Need-mul-s
 mul-s c = search needs
 
--- src/lib.rt:61:9
 returns-2 : tie.Need-returns-2
 unfolding writtenOf
 returns-2 c = rw (c .if2 .taken)
 
--- src/lib.rt:65:9
 returns-3 : tie.Need-returns-3
 unfolding writtenOf
 returns-3 c = rw (c .if3 .taken)
 
--- src/lib.rt:69:9
 returns-4 : tie.Need-returns-4
 unfolding writtenOf
 returns-4 c = rw (c .if4 .taken)
 
--- src/lib.rt:73:9
 returns-5 : tie.Need-returns-5
 unfolding writtenOf
 returns-5 c = rw (c .if5 .taken)
 
--- src/lib.rt:51:1
 returns-6 : tie.Need-returns-6
 unfolding writtenOf
 returns-6 c = rw (ne-eqb _ _ (c .before .before .before .before .if1 .left), ne-eqb _ _ (c .before .before .before .if2 .left), ne-eqb _ _ (c .before .before .if3 .left), ne-eqb _ _ (c .before .if4 .left), ne-eqb _ _ (c .if5 .left))

@@ -7,15 +7,12 @@ use Rattle.rights.proofs.place.Tie as tie
 use Rattle.rights.proofs.place.Reads as reads
 use Rattle.rights.proofs.place.Lts as lts
 
--- src/lib.rt:69:5
 mul-result : tie.Need-mul-result
 mul-result c = search needs
 
--- src/lib.rt:69:5
 array-read-result : tie.Need-array-read-result
 array-read-result c = search needs
 
--- src/lib.rt:65:1
 returns : tie.Need-returns
 returns c = entry (λ (d : ℕ). 2 * d) 16 (c .args .domain) (search needs)
 

@@ -6,7 +6,6 @@ use Rattle.rights.proofs.table.Tie as tie
 use Rattle.rights.proofs.table.Reads as reads
 use Rattle.rights.proofs.table.Lts as lts
 
--- src/lib.rt:31:1
 returns : tie.Need-returns
 unfolding rightsTable rights
 returns c = refl

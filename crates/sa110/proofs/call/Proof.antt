@@ -10,35 +10,27 @@ use Rattle.sa110.proofs.call.Lts as lts
 use Rattle.sa110.proofs.serve.Reads as serve-reads
 use Rattle.sa110.proofs.state_refusal.Reads as state-refusal-reads
 
--- src/lib.rt:367:9
 state-refusal-requires : tie.Need-state-refusal-requires
 state-refusal-requires c κs = search needs
 
--- src/lib.rt:369:9
 same-length : tie.Need-same-length
 same-length c = search needs
 
--- src/lib.rt:369:9
 same-length-2 : tie.Need-same-length-2
 same-length-2 c = search needs
 
--- src/lib.rt:369:9
 returns : tie.Need-returns
 returns c = let a = c .before .before .before .before .before .before .args in sym (state-refused (machineIn (now (a .memory)) (now (a .store)) (a .state) (a .cp15)) (a .c) _ (c .before .state-refusal .ensures) (c .if1 .taken))
 
--- src/lib.rt:375:5
 serve-requires : tie.Need-serve-requires
 serve-requires c κs = search needs
 
--- src/lib.rt:364:1
 same-length-3 : tie.Need-same-length-3
 same-length-3 c = search needs
 
--- src/lib.rt:364:1
 same-length-4 : tie.Need-same-length-4
 same-length-4 c = search needs
 
--- src/lib.rt:364:1
 returns-2 : tie.Need-returns-2
 returns-2 c = search needs
 

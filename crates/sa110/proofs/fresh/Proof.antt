@@ -4,7 +4,6 @@ use Rattle.sa110.proofs.fresh.Tie as tie
 use Rattle.sa110.proofs.fresh.Reads as reads
 use Rattle.sa110.proofs.fresh.Lts as lts
 
--- src/lib.rt:539:1
 returns : tie.Need-returns
 returns c = fresh-is (c .args .size)
 

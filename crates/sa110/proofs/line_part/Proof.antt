@@ -7,31 +7,24 @@ use Rattle.sa110.proofs.line_part.Tie as tie
 use Rattle.sa110.proofs.line_part.Reads as reads
 use Rattle.sa110.proofs.line_part.Lts as lts
 
--- src/lib.rt:604:12
 mul-result : tie.Need-mul-result
 mul-result c = search needs
 
--- src/lib.rt:604:20
 mul-result-2 : tie.Need-mul-result-2
 mul-result-2 c = search needs
 
--- src/lib.rt:604:20
 add-result : tie.Need-add-result
 add-result c = search needs
 
--- src/lib.rt:604:5
 sub-result : tie.Need-sub-result
 sub-result c = search needs
 
--- src/lib.rt:604:5
 part-result-start : tie.Need-part-result-start
 part-result-start c = search needs
 
--- src/lib.rt:604:5
 part-result-end : tie.Need-part-result-end
 part-result-end c = search needs
 
--- src/lib.rt:600:1
 returns : tie.Need-returns
 returns c = let a = c .before .args in let e : a .i * 32 + 32 - a .i * 32 ≡ 32 = omega arith in rw e
 

@@ -16,63 +16,50 @@ use Rattle.sa110.proofs.line_part.Reads as line-part-reads
 use Rattle.sa110.proofs.state_refusal.Reads as state-refusal-reads
 use Rattle.sa110.proofs.uncached_part.Reads as uncached-part-reads
 
--- src/lib.rt:651:8
 state-refusal-requires : tie.Need-state-refusal-requires
 state-refusal-requires c κs = search needs
 
--- src/lib.rt:652:16
 sub-result : tie.Need-sub-result
 sub-result c = search needs
 
--- src/lib.rt:652:16
 part-result-start : tie.Need-part-result-start
 part-result-start c = search needs
 
--- src/lib.rt:652:16
 part-result-end : tie.Need-part-result-end
 part-result-end c = search needs
 
--- src/lib.rt:652:9
 returns : tie.Need-returns
 returns c = let a = c .before .before .before .before .before .args in look-refused (machineIn (now (a .memory)) (now (a .store)) (a .state) (a .cp15)) (a .va) _ (c .before .before .state-refusal .ensures) (c .before .if1 .taken)
 
--- src/lib.rt:656:29
 slice-aggregate-find : tie.Need-slice-aggregate-find
 slice-aggregate-find c = search needs
 
--- src/lib.rt:656:9
 find-requires : tie.Need-find-requires
 find-requires c κs = search needs
 
--- src/lib.rt:658:20
 enum-known-found : tie.Need-enum-known-found
 enum-known-found c = search needs
 
--- src/lib.rt:658:26
 line-part-requires : tie.Need-line-part-requires
 line-part-requires c κs = let a = c .before .before .before .before .before .before .before .before .before .before .before .args in
     let h = look-accepts (machineIn (now (a .memory)) (now (a .store)) (a .state) (a .cp15)) (a .va) _ (c .before .before .before .before .before .before .before .before .state-refusal .ensures) (c .before .before .before .before .before .before .before .if1 .left) in
     let f = found (linesOf (a .state .lines)) (a .va) _ (sym (c .before .before .before .find .ensures) ∙ c .before .found .given .1) in
     omega (arith, h .store, f .low)
 
--- src/lib.rt:659:28
 enum-told : tie.Need-enum-told
 enum-told c = search needs
 
--- src/lib.rt:659:28
 uncached-part-requires : tie.Need-uncached-part-requires
 uncached-part-requires c κs = let a = c .before .before .before .before .before .before .before .before .before .before .args in
     let m = machineIn (now (a .memory)) (now (a .store)) (a .state) (a .cp15) in
     let ls : length (a .state .lines) ≡ 512 = search (needs, c .before .before .before .before .before .before .before .before .before .before .good .0) in
     (look-accepts m (a .va) _ (c .before .before .before .before .before .before .before .state-refusal .ensures) (c .before .before .before .before .before .before .if1 .left) .whole, base-whole m (a .va) _ (c .before .before .before .before .before .before .before .state-refusal .ensures) (c .before .before .before .before .before .before .if1 .left) (length-map (a .state .lines) lineOf ∙ ls))
 
--- src/lib.rt:642:1
 returns-2 : tie.Need-returns-2
 returns-2 c = let a = c .before .before .before .before .before .before .before .before .before .before .before .before .args in
     let m = machineIn (now (a .memory)) (now (a .store)) (a .state) (a .cp15) in
     c .line-part .ensures ∙ sym (look-by m (a .va) _ (c .before .before .before .before .before .before .before .before .before .state-refusal .ensures) (c .before .before .before .before .before .before .before .before .if1 .left) _ (sym (c .before .before .found .given .1) ∙ c .before .before .before .before .find .ensures))
 
--- src/lib.rt:642:1
 returns-3 : tie.Need-returns-3
 returns-3 c = let a = c .before .before .before .before .before .before .before .before .before .before .before .args in
     let m = machineIn (now (a .memory)) (now (a .store)) (a .state) (a .cp15) in

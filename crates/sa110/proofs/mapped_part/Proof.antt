@@ -6,39 +6,30 @@ use Rattle.sa110.proofs.mapped_part.Lts as lts
 use Rattle.sa110.proofs.memory_part.Reads as memory-part-reads
 use Rattle.tlb.proofs.translated.Reads as translated-reads
 
--- src/lib.rt:624:24
 enum-known-m : tie.Need-enum-known-m
 enum-known-m c = search needs
 
--- src/lib.rt:624:50
 translated-requires : tie.Need-translated-requires
 translated-requires c κs = rw (c .before .m .given .1) at (c .before .before .before .before .pre .1)
 
--- src/lib.rt:624:30
 memory-part-requires : tie.Need-memory-part-requires
 memory-part-requires c κs = search needs
 
--- src/lib.rt:625:25
 enum-known-m-2 : tie.Need-enum-known-m-2
 enum-known-m-2 c = search needs
 
--- src/lib.rt:625:34
 sub-result : tie.Need-sub-result
 sub-result c = search needs
 
--- src/lib.rt:625:34
 part-result-start : tie.Need-part-result-start
 part-result-start c = search needs
 
--- src/lib.rt:625:34
 part-result-end : tie.Need-part-result-end
 part-result-end c = search needs
 
--- src/lib.rt:619:1
 returns : tie.Need-returns
 returns c = rw (c .before .before .before .m .given .1, ← c .before .translated .ensures) (c .memory-part .ensures)
 
--- src/lib.rt:619:1
 returns-2 : tie.Need-returns-2
 returns-2 c = rw (c .before .before .m2 .given .1)
 

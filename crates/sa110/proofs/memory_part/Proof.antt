@@ -8,35 +8,27 @@ use Rattle.sa110.proofs.memory_part.Reads as reads
 use Rattle.sa110.proofs.memory_part.Lts as lts
 use Rattle.sa110.proofs.line_part.Reads as line-part-reads
 
--- src/lib.rt:612:9
 cast-if1 : tie.Need-cast-if1
 cast-if1 c = search needs
 
--- src/lib.rt:613:34
 cast-line-part : tie.Need-cast-line-part
 cast-line-part c = search needs
 
--- src/lib.rt:613:9
 line-part-requires : tie.Need-line-part-requires
 line-part-requires c κs = search needs
 
--- src/lib.rt:613:9
 returns : tie.Need-returns
 returns c = let a = c .before .before .before .before .before .args in rw (lt-ltb (a .pa .0) (length (now (a .memory))) (c .before .before .if1 .taken)) (c .line-part .ensures)
 
--- src/lib.rt:615:5
 sub-result : tie.Need-sub-result
 sub-result c = search needs
 
--- src/lib.rt:615:5
 part-result-start : tie.Need-part-result-start
 part-result-start c = search needs
 
--- src/lib.rt:615:5
 part-result-end : tie.Need-part-result-end
 part-result-end c = search needs
 
--- src/lib.rt:608:1
 returns-2 : tie.Need-returns-2
 returns-2 c = let a = c .before .before .before .before .args in rw (le-ltb (a .pa .0) (length (now (a .memory))) (c .before .if1 .left))
 

@@ -20,42 +20,33 @@ Inv-loop bytes out₀ i₀ out i = (i ≤ 8) × Toward bytes (bytesOf out₀) (b
 abbrev μ-loop : tie.MeasureT-loop
 μ-loop bytes out₀ i₀ out i = 8 - i
 
--- src/lib.rt:253:5
 loop-holds : tie.Need-loop-holds Inv-loop μ-loop
 loop-holds c = (omega arith, toward-start _ _)
 
--- src/lib.rt:254:17
 mul-b : tie.Need-mul-b Inv-loop μ-loop
 mul-b c = search needs
 
--- src/lib.rt:254:17
 array-copy-out-b : tie.Need-array-copy-out-b Inv-loop μ-loop
 array-copy-out-b c = search needs
 
--- src/lib.rt:255:9
 mul-out : tie.Need-mul-out Inv-loop μ-loop
 mul-out c = search needs
 
--- src/lib.rt:255:9
 array-set-from-out : tie.Need-array-set-from-out Inv-loop μ-loop
 array-set-from-out c = search needs
 
--- src/lib.rt:258:9
 add-i : tie.Need-add-i Inv-loop μ-loop
 add-i c = search needs
 
--- src/lib.rt:253:5
 loop-less : tie.Need-loop-less Inv-loop μ-loop
 loop-less c = search needs
 
--- src/lib.rt:253:5
 loop-again : tie.Need-loop-again Inv-loop μ-loop
 loop-again c = let l = c .before .before .loop in
     let bs = c .before .before .before .args .t1 in
     let n : length bs ≡ 8 = search needs in
     (omega arith, pack-step bs (replicate 8 (record { bytes = replicate 16 0 })) (l .out) (l .i) n refl (omega arith) (l .inv .1))
 
--- src/lib.rt:245:1
 returns : tie.Need-returns Inv-loop μ-loop
 returns c = let l = c .before .loop in
     let bs = c .before .before .args .t1 in

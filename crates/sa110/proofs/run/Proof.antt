@@ -12,53 +12,41 @@ use Rattle.step.proofs.refuse_calls.Reads as refuse-calls-reads
 use Rattle.sa110.proofs.run_served.Reads as run-served-reads
 use Rattle.sa110.proofs.state_refusal.Reads as state-refusal-reads
 
--- src/lib.rt:490:9
 calls-held-requires : tie.Need-calls-held-requires
 calls-held-requires c κs = search needs
 
--- src/lib.rt:491:9
 state-refusal-requires : tie.Need-state-refusal-requires
 state-refusal-requires c κs = search needs
 
--- src/lib.rt:496:19
 refuse-calls-requires : tie.Need-refuse-calls-requires
 refuse-calls-requires c κs = search needs
 
--- src/lib.rt:493:9
 same-length : tie.Need-same-length
 same-length c = search needs
 
--- src/lib.rt:493:9
 same-length-2 : tie.Need-same-length-2
 same-length-2 c = search needs
 
--- src/lib.rt:493:9
 same-length-3 : tie.Need-same-length-3
 same-length-3 c = search needs
 
--- src/lib.rt:493:9
 returns : tie.Need-returns
 returns c = let a = c .before .before .before .before .before .before .before .before .before .before .before .before .before .before .args in
     let m = machineIn (now (a .memory)) (now (a .store)) (a .state) (a .cp15) in
     c .before .before .refuse-calls .ensures m (c .before .before .before .before .before .state-refusal .ensures) ∙ sym (run-as m (now (a .calls)) (now (a .answers)) _ (c .before .before .before .before .before .before .before .before .calls-held .ensures))
 
--- src/lib.rt:499:5
 run-served-requires : tie.Need-run-served-requires
 run-served-requires c κs = search needs
 
--- src/lib.rt:478:1
 same-length-4 : tie.Need-same-length-4
 same-length-4 c = search needs
 
--- src/lib.rt:478:1
 same-length-5 : tie.Need-same-length-5
 same-length-5 c = search needs
 
--- src/lib.rt:478:1
 same-length-6 : tie.Need-same-length-6
 same-length-6 c = search needs
 
--- src/lib.rt:478:1
 returns-2 : tie.Need-returns-2
 returns-2 c = let a = c .before .before .before .before .before .before .before .before .before .before .before .before .before .before .before .before .before .before .before .before .args in
     let m = machineIn (now (a .memory)) (now (a .store)) (a .state) (a .cp15) in

@@ -14,31 +14,24 @@ use Rattle.sa110.proofs.packed.Reads as packed-reads
 use Rattle.step.proofs.run_calls.Reads as run-calls-reads
 use Rattle.sa110.proofs.unpacked.Reads as unpacked-reads
 
--- src/lib.rt:428:17
 table-requires : tie.Need-table-requires
 table-requires c κs = search needs
 
--- src/lib.rt:435:21
 unpacked-requires : tie.Need-unpacked-requires
 unpacked-requires c κs = search needs
 
--- src/lib.rt:444:9
 slice-aggregate-run-calls : tie.Need-slice-aggregate-run-calls
 slice-aggregate-run-calls c = search (needs, c .before .before .before .before .before .before .before .before .before .before .before .before .before .before .before .good .0)
 
--- src/lib.rt:446:9
 slice-aggregate-run-calls-2 : tie.Need-slice-aggregate-run-calls-2
 slice-aggregate-run-calls-2 c = search (needs, c .before .before .before .before .before .before .before .before .before .before .before .before .before .before .before .before .before .good .0)
 
--- src/lib.rt:447:9
 slice-aggregate-run-calls-3 : tie.Need-slice-aggregate-run-calls-3
 slice-aggregate-run-calls-3 c = search (needs, c .before .before .before .before .before .before .before .before .before .before .before .before .before .before .before .before .before .before .good .0)
 
--- src/lib.rt:449:9
 slice-aggregate-run-calls-4 : tie.Need-slice-aggregate-run-calls-4
 slice-aggregate-run-calls-4 c = search (needs, c .before .before .before .before .before .before .before .before .before .before .before .before .before .before .before .before .before .before .before .before .good .0)
 
--- src/lib.rt:441:9
 run-calls-requires : tie.Need-run-calls-requires
 run-calls-requires c κs = let a = c .before .before .before .before .before .before .before .before .before .before .before .before .before .before .before .before .before .before .before .before .before .args in
     let s = a .state in
@@ -50,23 +43,18 @@ run-calls-requires c κs = let a = c .before .before .before .before .before .be
     let z = c .before .before .before .before .before .before .before .before .before .unpacked .ok in
     (c .before .before .before .before .before .before .before .before .before .before .before .before .before .before .before .before .table .ensures, ws, z .1 .0 .1, c .before .before .before .before .before .before .before .before .before .before .before .before .before .before .before .before .before .before .before .before .before .pre .1, serves-of (now (a .memory)) (now (a .store)) s (a .cp15) bs (c .before .before .before .before .before .before .before .before .before .unpacked .ensures) (c .before .before .before .before .before .before .before .before .before .before .before .before .before .before .before .before .before .before .before .before .before .pre .0) e ls ps ws (z .1 .0 .1) (rows-of bs (z .0) (z .1 .1)) (λ i h. omega (arith, c .before .before .before .before .before .before .before .before .before .before .before .before .before .before .before .before .before .before .before .before .slice-known .given i)) (λ i h. omega (arith, c .before .before .before .before .before .before .before .before .before .before .before .before .before .before .before .before .before .before .before .slice-known2 .given i)))
 
--- src/lib.rt:458:9
 packed-requires : tie.Need-packed-requires
 packed-requires c κs = search needs
 
--- src/lib.rt:414:1
 same-length : tie.Need-same-length
 same-length c = search needs
 
--- src/lib.rt:414:1
 same-length-2 : tie.Need-same-length-2
 same-length-2 c = search needs
 
--- src/lib.rt:414:1
 same-length-3 : tie.Need-same-length-3
 same-length-3 c = search needs
 
--- src/lib.rt:414:1
 returns : tie.Need-returns
 returns c = let a = c .before .before .before .before .before .before .before .before .before .before .before .before .before .before .before .before .before .before .before .before .before .before .before .before .before .before .before .before .before .before .before .before .before .before .before .before .args in
     let st = c .before .before .before .before .before .before .before .before .before .before .before .before .before .before .run-calls in

@@ -17,31 +17,24 @@ use Rattle.sa110.proofs.packed.Reads as packed-reads
 use Rattle.step.proofs.step.Reads as step-reads
 use Rattle.sa110.proofs.unpacked.Reads as unpacked-reads
 
--- src/lib.rt:316:17
 table-requires : tie.Need-table-requires
 table-requires c κs = search needs
 
--- src/lib.rt:323:21
 unpacked-requires : tie.Need-unpacked-requires
 unpacked-requires c κs = search needs
 
--- src/lib.rt:332:9
 slice-aggregate-step : tie.Need-slice-aggregate-step
 slice-aggregate-step c = search (needs, c .before .before .before .before .before .before .before .before .before .before .before .before .before .good .0)
 
--- src/lib.rt:334:9
 slice-aggregate-step-2 : tie.Need-slice-aggregate-step-2
 slice-aggregate-step-2 c = search needs
 
--- src/lib.rt:335:9
 slice-aggregate-step-3 : tie.Need-slice-aggregate-step-3
 slice-aggregate-step-3 c = search (needs, c .before .before .before .before .before .before .before .before .before .before .before .before .before .before .before .before .good .0)
 
--- src/lib.rt:337:9
 slice-aggregate-step-4 : tie.Need-slice-aggregate-step-4
 slice-aggregate-step-4 c = search needs
 
--- src/lib.rt:329:9
 step-requires : tie.Need-step-requires
 step-requires c κs = let a = c .before .before .before .before .before .before .before .before .before .before .before .before .before .before .before .before .before .before .args in
     let s = a .state in
@@ -53,19 +46,15 @@ step-requires c κs = let a = c .before .before .before .before .before .before 
     let z = c .before .before .before .before .before .before .before .before .unpacked .ok in
     (c .before .before .before .before .before .before .before .before .before .before .before .before .before .before .before .table .ensures, ws, z .1 .0 .1, serves-of (now (a .memory)) (now (a .store)) s (a .cp15) bs (c .before .before .before .before .before .before .before .before .unpacked .ensures) (c .before .before .before .before .before .before .before .before .before .before .before .before .before .before .before .before .before .before .pre) e ls ps ws (z .1 .0 .1) (rows-of bs (z .0) (z .1 .1)) (λ i h. omega (arith, c .before .before .before .before .before .before .before .before .before .before .before .before .before .before .before .before .before .slice-known .given i)) (λ i h. omega (arith, c .before .before .before .before .before .before .before .before .before .before .before .before .before .before .before .before .slice-known2 .given i)))
 
--- src/lib.rt:345:9
 packed-requires : tie.Need-packed-requires
 packed-requires c κs = search needs
 
--- src/lib.rt:312:1
 same-length : tie.Need-same-length
 same-length c = search needs
 
--- src/lib.rt:312:1
 same-length-2 : tie.Need-same-length-2
 same-length-2 c = search needs
 
--- src/lib.rt:312:1
 returns : tie.Need-returns
 returns c = let a = c .before .before .before .before .before .before .before .before .before .before .before .before .before .before .before .before .before .before .before .before .before .before .before .before .before .before .before .before .before .before .before .args in
     let st = c .before .before .before .before .before .before .before .before .before .before .before .before .step in

@@ -11,27 +11,21 @@ use Rattle.sa110.proofs.memory_part.Reads as memory-part-reads
 use Rattle.values.proofs.mmu.Reads as mmu-reads
 use Rattle.walk.proofs.walk.Reads as walk-reads
 
--- src/lib.rt:634:8
 mmu-requires : tie.Need-mmu-requires
 mmu-requires c κs = search needs
 
--- src/lib.rt:635:13
 walk-requires : tie.Need-walk-requires
 walk-requires c κs = search needs
 
--- src/lib.rt:636:9
 mapped-part-requires : tie.Need-mapped-part-requires
 mapped-part-requires c κs = search needs
 
--- src/lib.rt:636:9
 returns : tie.Need-returns
 returns c = let f : mmu (c .before .before .before .before .before .args .r) ≡ true = sym (c .before .before .before .mmu .ensures) ∙ c .before .before .if1 .taken in rw (f, ← c .before .walk .ensures .same) (c .mapped-part .ensures)
 
--- src/lib.rt:638:5
 memory-part-requires : tie.Need-memory-part-requires
 memory-part-requires c κs = search needs
 
--- src/lib.rt:630:1
 returns-2 : tie.Need-returns-2
 returns-2 c = let f : mmu (c .before .before .before .before .args .r) ≡ false = sym (c .before .before .mmu .ensures) ∙ c .before .if1 .left in rw f (c .memory-part .ensures)
 

@@ -20,42 +20,33 @@ Inv-loop slots out₀ i₀ out i = (i ≤ 8) × Toward (bytesOf slots) out₀ ou
 abbrev μ-loop : tie.MeasureT-loop
 μ-loop slots out₀ i₀ out i = 8 - i
 
--- src/lib.rt:235:5
 loop-holds : tie.Need-loop-holds Inv-loop μ-loop
 loop-holds c = (omega arith, toward-start _ _)
 
--- src/lib.rt:236:17
 mul-s : tie.Need-mul-s Inv-loop μ-loop
 mul-s c = search needs
 
--- src/lib.rt:236:17
 array-copy-out-s : tie.Need-array-copy-out-s Inv-loop μ-loop
 array-copy-out-s c = search needs
 
--- src/lib.rt:238:9
 mul-out : tie.Need-mul-out Inv-loop μ-loop
 mul-out c = search needs
 
--- src/lib.rt:238:9
 array-set-from-out : tie.Need-array-set-from-out Inv-loop μ-loop
 array-set-from-out c = search needs
 
--- src/lib.rt:239:9
 add-i : tie.Need-add-i Inv-loop μ-loop
 add-i c = search needs
 
--- src/lib.rt:235:5
 loop-less : tie.Need-loop-less Inv-loop μ-loop
 loop-less c = search needs
 
--- src/lib.rt:235:5
 loop-again : tie.Need-loop-again Inv-loop μ-loop
 loop-again c = let l = c .before .before .before .loop in
     let slots = c .before .before .before .before .args .t1 in
     let n : length slots ≡ 8 = search needs in
     (omega arith, unpack-step slots (replicate 8 (replicate 16 0)) (l .out) (l .i) n refl (omega arith) (l .inv .1))
 
--- src/lib.rt:230:1
 returns : tie.Need-returns Inv-loop μ-loop
 returns c = let l = c .before .loop in
     let slots = c .before .before .args .t1 in

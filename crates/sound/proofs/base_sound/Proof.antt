@@ -5,15 +5,12 @@ use Rattle.sound.proofs.base_sound.Tie as tie
 use Rattle.sound.proofs.base_sound.Reads as reads
 use Rattle.sound.proofs.base_sound.Lts as lts
 
--- src/lib.rt:117:9
 returns : tie.Need-returns
 returns c = let a = c .before .args in sym (base-section (a .size) (a .page) (c .if1 .taken))
 
--- src/lib.rt:120:9
 returns-2 : tie.Need-returns-2
 returns-2 c = let a = c .before .before .args in sym (base-large (a .size) (a .page) (c .if2 .taken))
 
--- src/lib.rt:113:1
 returns-3 : tie.Need-returns-3
 returns-3 c = let a = c .before .before .args in sym (base-small (a .size) (a .page) (c .before .if1 .left) (c .if2 .left))
 

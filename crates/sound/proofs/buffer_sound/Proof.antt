@@ -16,55 +16,43 @@ Inv-loop words bytes used n i₀ i = (i ≤ 8) × Held n used words bytes i
 abbrev μ-loop : tie.MeasureT-loop
 μ-loop words bytes used n i₀ i = 8 - i
 
--- src/lib.rt:354:9
 returns : tie.Need-returns Inv-loop μ-loop
 returns c = let a = c .before .before .args in sym (too-many (a .n) (a .used) (now (a .words)) (now (a .bytes)) (c .if1 .taken))
 
--- src/lib.rt:357:5
 loop-holds : tie.Need-loop-holds Inv-loop μ-loop
 loop-holds c = let a = c .before .before .args in (search needs, held-none (a .n) (a .used) (now (a .words)) (now (a .bytes)))
 
--- src/lib.rt:358:24
 mul-place-sound : tie.Need-mul-place-sound Inv-loop μ-loop
 mul-place-sound c = search needs
 
--- src/lib.rt:358:24
 shared-slice-read-place-sound : tie.Need-shared-slice-read-place-sound Inv-loop μ-loop
 shared-slice-read-place-sound c = search needs
 
--- src/lib.rt:358:34
 mul-place-sound-2 : tie.Need-mul-place-sound-2 Inv-loop μ-loop
 mul-place-sound-2 c = search needs
 
--- src/lib.rt:358:34
 shared-slice-copy-out-place-sound : tie.Need-shared-slice-copy-out-place-sound Inv-loop μ-loop
 shared-slice-copy-out-place-sound c = search needs
 
--- src/lib.rt:358:12
 place-sound-requires : tie.Need-place-sound-requires Inv-loop μ-loop
 place-sound-requires c κs = search needs
 
--- src/lib.rt:359:13
 add-i : tie.Need-add-i Inv-loop μ-loop
 add-i c = search needs
 
--- src/lib.rt:357:5
 loop-less : tie.Need-loop-less Inv-loop μ-loop
 loop-less c = search needs
 
--- src/lib.rt:357:5
 loop-again : tie.Need-loop-again Inv-loop μ-loop
 loop-again c = let a = c .before .before .before .before .before .before .before .before .args in
     let l = c .before .before .before .before .before .loop in
     (omega arith, held-on (a .n) (a .used) (now (a .words)) (now (a .bytes)) (l .i) (l .inv .1) (sym (c .before .place-sound .ensures) ∙ c .if2 .taken))
 
--- src/lib.rt:361:13
 returns-2 : tie.Need-returns-2 Inv-loop μ-loop
 returns-2 c = let a = c .before .before .before .before .before .before .before .before .args in
     let l = c .before .before .before .before .before .loop in
     sym (place-bad (a .n) (a .used) (now (a .words)) (now (a .bytes)) (c .before .before .before .before .before .before .before .before .pre .0) (c .before .before .before .before .before .before .before .before .pre .1) (c .before .before .before .before .before .before .if1 .left) (l .i) (omega arith) (sym (c .before .place-sound .ensures) ∙ c .if2 .left))
 
--- src/lib.rt:349:1
 returns-3 : tie.Need-returns-3 Inv-loop μ-loop
 returns-3 c = let a = c .before .before .before .before .args in
     let l = c .before .loop in

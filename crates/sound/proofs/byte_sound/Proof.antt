@@ -11,11 +11,9 @@ use Rattle.sound.proofs.byte_sound.Tie as tie
 use Rattle.sound.proofs.byte_sound.Reads as reads
 use Rattle.sound.proofs.byte_sound.Lts as lts
 
--- src/lib.rt:289:9
 returns : tie.Need-returns
 returns c = let a = c .before .args in sym (byte-masked (a .mask) (a .x) (c .if1 .taken))
 
--- src/lib.rt:285:1
 returns-2 : tie.Need-returns-2
 returns-2 c = let a = c .before .args in sym (byte-outside (a .mask) (a .x) (c .if1 .left))
 

@@ -9,31 +9,24 @@ use Rattle.sound.proofs.counts_sound.Tie as tie
 use Rattle.sound.proofs.counts_sound.Reads as reads
 use Rattle.sound.proofs.counts_sound.Lts as lts
 
--- src/lib.rt:172:9
 returns : tie.Need-returns
 returns c = let a = c .before .before .args in λ lines e. sym (misses-high (a .c) lines (c .if1 .taken))
 
--- src/lib.rt:175:9
 returns-2 : tie.Need-returns-2
 returns-2 c = let a = c .before .before .before .before .args in λ lines e. sym (hits-high (a .c) lines (c .before .before .if1 .left) (c .if2 .taken))
 
--- src/lib.rt:178:9
 returns-3 : tie.Need-returns-3
 returns-3 c = let a = c .before .before .before .before .before .before .args in λ lines e. sym (fills-high (a .c) lines (c .before .before .before .before .if1 .left) (c .before .before .if2 .left) (c .if3 .taken))
 
--- src/lib.rt:180:5
 cast-result : tie.Need-cast-result
 cast-result c = search needs
 
--- src/lib.rt:180:5
 add-result : tie.Need-add-result
 add-result c = search needs
 
--- src/lib.rt:180:39
 cast-result-2 : tie.Need-cast-result-2
 cast-result-2 c = search needs
 
--- src/lib.rt:168:1
 returns-4 : tie.Need-returns-4
 returns-4 c = let a = c .before .before .before .before .before .before .before .before .args in λ lines e. sym (halves-test (a .c) lines (c .before .before .before .before .before .before .if1 .left) (c .before .before .before .before .if2 .left) (c .before .before .if3 .left) (a .dirty) e)
 

@@ -24,43 +24,33 @@ Inv-loop lines i₀ low₀ high₀ i low high = (i ≤ 512) × (low ≤ 2 * i) �
 abbrev μ-loop : tie.MeasureT-loop
 μ-loop lines i₀ low₀ high₀ i low high = 512 - i
 
--- src/lib.rt:103:5
 loop-holds : tie.Need-loop-holds Inv-loop μ-loop
 loop-holds c = (search needs, search needs, search needs, search needs, search needs, zero-add (sum dirtyHalves (linesOf (now (c .args .lines)))))
 
--- src/lib.rt:104:20
 mul-line : tie.Need-mul-line Inv-loop μ-loop
 mul-line c = search needs
 
--- src/lib.rt:104:20
 shared-slice-read-line : tie.Need-shared-slice-read-line Inv-loop μ-loop
 shared-slice-read-line c = search needs
 
--- src/lib.rt:105:16
 mul-low : tie.Need-mul-low Inv-loop μ-loop
 mul-low c = search needs
 
--- src/lib.rt:105:9
 add-low : tie.Need-add-low Inv-loop μ-loop
 add-low c = search needs
 
--- src/lib.rt:106:17
 mul-high : tie.Need-mul-high Inv-loop μ-loop
 mul-high c = search needs
 
--- src/lib.rt:106:9
 add-high : tie.Need-add-high Inv-loop μ-loop
 add-high c = search needs
 
--- src/lib.rt:107:9
 add-i : tie.Need-add-i Inv-loop μ-loop
 add-i c = search needs
 
--- src/lib.rt:103:5
 loop-less : tie.Need-loop-less Inv-loop μ-loop
 loop-less c = search needs
 
--- src/lib.rt:103:5
 loop-again : tie.Need-loop-again Inv-loop μ-loop
 loop-again c = let a = c .before .before .before .args in
     let l = c .before .before .loop in
@@ -69,15 +59,12 @@ loop-again c = let a = c .before .before .before .args in
     let s = sum-on dirtyHalves lineOf emptyLine line-zero (now (a .lines)) (l .i) (omega arith) in
     (omega arith, omega arith, omega arith, omega arith, omega arith, omega arith)
 
--- src/lib.rt:109:6
 add-result : tie.Need-add-result Inv-loop μ-loop
 add-result c = search needs
 
--- src/lib.rt:109:5
 cast-result : tie.Need-cast-result Inv-loop μ-loop
 cast-result c = search needs
 
--- src/lib.rt:96:1
 returns : tie.Need-returns Inv-loop μ-loop
 returns c = let a = c .before .before .args in
     let l = c .before .loop in

@@ -20,31 +20,24 @@ Inv-loop lines i₀ stray₀ i stray = (i ≤ length lines) × Joined whole line
 abbrev μ-loop : tie.MeasureT-loop
 μ-loop lines i₀ stray₀ i stray = length lines - i
 
--- src/lib.rt:60:5
 loop-holds : tie.Need-loop-holds Inv-loop μ-loop
 loop-holds c = (omega arith, joined-start whole (now (c .before .args .lines)))
 
--- src/lib.rt:61:33
 mul-even-part : tie.Need-mul-even-part Inv-loop μ-loop
 mul-even-part c = search needs
 
--- src/lib.rt:61:33
 shared-slice-read-even-part : tie.Need-shared-slice-read-even-part Inv-loop μ-loop
 shared-slice-read-even-part c = search needs
 
--- src/lib.rt:61:23
 even-part-requires : tie.Need-even-part-requires Inv-loop μ-loop
 even-part-requires c κs = search needs
 
--- src/lib.rt:62:9
 add-i : tie.Need-add-i Inv-loop μ-loop
 add-i c = search needs
 
--- src/lib.rt:60:5
 loop-less : tie.Need-loop-less Inv-loop μ-loop
 loop-less c = search needs
 
--- src/lib.rt:60:5
 loop-again : tie.Need-loop-again Inv-loop μ-loop
 loop-again c = let a = c .before .before .before .before .before .args in
     let l = c .before .before .before .loop in
@@ -53,7 +46,6 @@ loop-again c = let a = c .before .before .before .before .before .args in
     let e = or-is-zero (l .stray) r ∙ ap (λ (x : Bool). eqb (l .stray) 0 && x) (part-whole w r (c .even-part .ensures)) in
     (omega arith, joined-on whole (now (a .lines)) (l .i) (eqb (l .stray) 0) (eqb (bitOr (l .stray) r) 0) (omega arith) (l .inv .1) e)
 
--- src/lib.rt:55:1
 returns : tie.Need-returns Inv-loop μ-loop
 returns c = let a = c .before .before .before .args in
     let l = c .before .loop in

@@ -25,43 +25,34 @@ Inv-loop entries i₀ i = (i ≤ length entries) × (all entrySound (drop i (ent
 abbrev μ-loop : tie.MeasureT-loop
 μ-loop entries i₀ i = length entries - i
 
--- src/lib.rt:157:5
 loop-holds : tie.Need-loop-holds Inv-loop μ-loop
 loop-holds c = (omega arith, refl)
 
--- src/lib.rt:158:24
 mul-entry-sound : tie.Need-mul-entry-sound Inv-loop μ-loop
 mul-entry-sound c = search needs
 
--- src/lib.rt:158:24
 shared-slice-read-entry-sound : tie.Need-shared-slice-read-entry-sound Inv-loop μ-loop
 shared-slice-read-entry-sound c = search needs
 
--- src/lib.rt:158:12
 entry-sound-requires : tie.Need-entry-sound-requires Inv-loop μ-loop
 entry-sound-requires c κs = search needs
 
--- src/lib.rt:159:13
 add-i : tie.Need-add-i Inv-loop μ-loop
 add-i c = search needs
 
--- src/lib.rt:157:5
 loop-less : tie.Need-loop-less Inv-loop μ-loop
 loop-less c = search needs
 
--- src/lib.rt:157:5
 loop-again : tie.Need-loop-again Inv-loop μ-loop
 loop-again c = let a = c .before .before .before .before .before .before .args in
     let l = c .before .before .before .before .loop in
     (omega arith, sym (words-on entrySound entryOf emptyEntry entry-zero (now (a .entries)) (l .i) (omega arith) (sym (c .before .entry-sound .ensures) ∙ c .if1 .taken)) ∙ l .inv .1)
 
--- src/lib.rt:161:13
 returns : tie.Need-returns Inv-loop μ-loop
 returns c = let a = c .before .before .before .before .before .before .args in
     let l = c .before .before .before .before .loop in
     sym (words-no entrySound entryOf emptyEntry entry-zero (now (a .entries)) (l .i) (omega arith) (sym (c .before .entry-sound .ensures) ∙ c .if1 .left)) ∙ l .inv .1
 
--- src/lib.rt:153:1
 returns-2 : tie.Need-returns-2 Inv-loop μ-loop
 returns-2 c = let a = c .before .before .before .args in
     let l = c .before .loop in

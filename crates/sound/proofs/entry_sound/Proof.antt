@@ -10,15 +10,12 @@ use Rattle.sound.proofs.entry_sound.Reads as reads
 use Rattle.sound.proofs.entry_sound.Lts as lts
 use Rattle.sound.proofs.fields_sound.Reads as fields-sound-reads
 
--- src/lib.rt:147:9
 fields-sound-requires : tie.Need-fields-sound-requires
 fields-sound-requires c κs = search needs
 
--- src/lib.rt:147:9
 returns : tie.Need-returns
 returns c = let a = c .before .before .args in c .fields-sound .ensures ∙ sym (entry-odd (a .w) (omega arith) (c .before .if1 .taken))
 
--- src/lib.rt:143:1
 returns-2 : tie.Need-returns-2
 returns-2 c = let a = c .before .args in sym (entry-even (a .w) (omega arith) (c .if1 .left))
 

@@ -10,27 +10,21 @@ use Rattle.sound.proofs.fields_sound.Reads as reads
 use Rattle.sound.proofs.fields_sound.Lts as lts
 use Rattle.sound.proofs.base_sound.Reads as base-sound-reads
 
--- src/lib.rt:131:9
 returns : tie.Need-returns
 returns c = let a = c .before .args in sym (size-high (a .w) (c .if1 .taken))
 
--- src/lib.rt:134:9
 returns-2 : tie.Need-returns-2
 returns-2 c = let a = c .before .before .args in sym (range-domain (a .w) (omega arith) (c .before .if1 .left) (c .if2 .taken))
 
--- src/lib.rt:136:8
 base-sound-requires : tie.Need-base-sound-requires
 base-sound-requires c κs = search needs
 
--- src/lib.rt:137:9
 base-sound-requires-2 : tie.Need-base-sound-requires-2
 base-sound-requires-2 c κs = search needs
 
--- src/lib.rt:137:9
 returns-3 : tie.Need-returns-3
 returns-3 c = let a = c .before .before .before .before .before .args in c .base-sound2 .ensures ∙ sym (range-physical (a .w) (omega arith) (c .before .before .before .before .if1 .left) (c .before .before .before .if2 .left) (sym (c .before .before .base-sound .ensures) ∙ c .before .if3 .taken))
 
--- src/lib.rt:126:1
 returns-4 : tie.Need-returns-4
 returns-4 c = let a = c .before .before .before .before .args in sym (range-virtual (a .w) (omega arith) (c .before .before .before .if1 .left) (sym (c .before .base-sound .ensures) ∙ c .if3 .left))
 

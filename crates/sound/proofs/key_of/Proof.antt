@@ -9,27 +9,21 @@ use Rattle.sound.proofs.key_of.Reads as reads
 use Rattle.sound.proofs.key_of.Lts as lts
 use Rattle.std.proofs.num.wrapping_sub_u32.Reads as wrapping-sub-u32-reads
 
--- src/lib.rt:188:5
 cast-result : tie.Need-cast-result
 cast-result c = search needs
 
--- src/lib.rt:188:58
 cast-wrapping-sub-u32 : tie.Need-cast-wrapping-sub-u32
 cast-wrapping-sub-u32 c = search needs
 
--- src/lib.rt:188:31
 wrapping-sub-u32-requires : tie.Need-wrapping-sub-u32-requires
 wrapping-sub-u32-requires c κs = search needs
 
--- src/lib.rt:188:90
 cast-result-2 : tie.Need-cast-result-2
 cast-result-2 c = search needs
 
--- src/lib.rt:188:80
 add-result : tie.Need-add-result
 add-result c = search needs
 
--- src/lib.rt:184:1
 returns : tie.Need-returns
 returns c = let a = c .before .args in
     λ e.

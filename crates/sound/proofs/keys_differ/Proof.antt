@@ -29,113 +29,87 @@ Inv-loop2 lines base keys p differ₀ i₀ differ i = (i ≤ 32) × (differ ≡ 
 abbrev μ-loop2 : tie.MeasureT-loop2
 μ-loop2 lines base keys p differ₀ i₀ differ i = 32 - i
 
--- src/lib.rt:199:5
 loop-holds : tie.Need-loop-holds Inv-loop μ-loop Inv-loop3 μ-loop3 Inv-loop2 μ-loop2
 loop-holds c = let a = c .before .args in (search needs, none-keyed (now (a .lines)) (a .base) _ refl)
 
--- src/lib.rt:200:30
 add-key-of : tie.Need-add-key-of Inv-loop μ-loop Inv-loop3 μ-loop3 Inv-loop2 μ-loop2
 add-key-of c = search needs
 
--- src/lib.rt:200:24
 mul-key-of : tie.Need-mul-key-of Inv-loop μ-loop Inv-loop3 μ-loop3 Inv-loop2 μ-loop2
 mul-key-of c = search needs
 
--- src/lib.rt:200:24
 shared-slice-read-key-of :
     tie.Need-shared-slice-read-key-of Inv-loop μ-loop Inv-loop3 μ-loop3 Inv-loop2 μ-loop2
 shared-slice-read-key-of c = search needs
 
--- src/lib.rt:200:13
 key-of-requires : tie.Need-key-of-requires Inv-loop μ-loop Inv-loop3 μ-loop3 Inv-loop2 μ-loop2
 key-of-requires c κs = search needs
 
--- src/lib.rt:201:9
 mul-keys : tie.Need-mul-keys Inv-loop μ-loop Inv-loop3 μ-loop3 Inv-loop2 μ-loop2
 mul-keys c = search needs
 
--- src/lib.rt:201:9
 array-write-keys : tie.Need-array-write-keys Inv-loop μ-loop Inv-loop3 μ-loop3 Inv-loop2 μ-loop2
 array-write-keys c = search needs
 
--- src/lib.rt:202:14
 add-keys : tie.Need-add-keys Inv-loop μ-loop Inv-loop3 μ-loop3 Inv-loop2 μ-loop2
 add-keys c = search needs
 
--- src/lib.rt:202:9
 mul-keys-2 : tie.Need-mul-keys-2 Inv-loop μ-loop Inv-loop3 μ-loop3 Inv-loop2 μ-loop2
 mul-keys-2 c = search needs
 
--- src/lib.rt:202:9
 array-write-keys-2 :
     tie.Need-array-write-keys-2 Inv-loop μ-loop Inv-loop3 μ-loop3 Inv-loop2 μ-loop2
 array-write-keys-2 c = search needs
 
--- src/lib.rt:203:9
 add-p : tie.Need-add-p Inv-loop μ-loop Inv-loop3 μ-loop3 Inv-loop2 μ-loop2
 add-p c = search needs
 
--- src/lib.rt:199:5
 loop-less : tie.Need-loop-less Inv-loop μ-loop Inv-loop3 μ-loop3 Inv-loop2 μ-loop2
 loop-less c = search needs
 
--- src/lib.rt:199:5
 loop-again : tie.Need-loop-again Inv-loop μ-loop Inv-loop3 μ-loop3 Inv-loop2 μ-loop2
 loop-again c = let a = c .before .before .before .before .before .args in
     let l = c .before .before .before .loop in
     (omega arith, keyed-on (now (a .lines)) (a .base) (l .p) (c .key-of .result) (l .keys) (omega arith) (l .inv .1) (c .key-of .ensures))
 
--- src/lib.rt:207:5
 loop2-holds : tie.Need-loop2-holds Inv-loop μ-loop Inv-loop3 μ-loop3 Inv-loop2 μ-loop2
 loop2-holds c = (search needs, λ t. none-rows (c .before .loop .keys))
 
--- src/lib.rt:209:9
 loop3-holds : tie.Need-loop3-holds Inv-loop μ-loop Inv-loop3 μ-loop3 Inv-loop2 μ-loop2
 loop3-holds c = let l = c .before .loop2 in (search needs, search needs, λ t. (l .inv .1 t, none-row (c .before .before .before .loop .keys) (l .i)))
 
--- src/lib.rt:210:32
 mul-differ : tie.Need-mul-differ Inv-loop μ-loop Inv-loop3 μ-loop3 Inv-loop2 μ-loop2
 mul-differ c = search needs
 
--- src/lib.rt:210:32
 array-read-differ : tie.Need-array-read-differ Inv-loop μ-loop Inv-loop3 μ-loop3 Inv-loop2 μ-loop2
 array-read-differ c = search needs
 
--- src/lib.rt:210:48
 add-differ : tie.Need-add-differ Inv-loop μ-loop Inv-loop3 μ-loop3 Inv-loop2 μ-loop2
 add-differ c = search needs
 
--- src/lib.rt:210:43
 mul-differ-2 : tie.Need-mul-differ-2 Inv-loop μ-loop Inv-loop3 μ-loop3 Inv-loop2 μ-loop2
 mul-differ-2 c = search needs
 
--- src/lib.rt:210:43
 array-read-differ-2 :
     tie.Need-array-read-differ-2 Inv-loop μ-loop Inv-loop3 μ-loop3 Inv-loop2 μ-loop2
 array-read-differ-2 c = search needs
 
--- src/lib.rt:211:13
 add-d : tie.Need-add-d Inv-loop μ-loop Inv-loop3 μ-loop3 Inv-loop2 μ-loop2
 add-d c = search needs
 
--- src/lib.rt:209:9
 loop3-less : tie.Need-loop3-less Inv-loop μ-loop Inv-loop3 μ-loop3 Inv-loop2 μ-loop2
 loop3-less c = search needs
 
--- src/lib.rt:209:9
 loop3-again : tie.Need-loop3-again Inv-loop μ-loop Inv-loop3 μ-loop3 Inv-loop2 μ-loop2
 loop3-again c = let l = c .before .loop3 in
     (omega arith, omega arith, λ t. row-tested (c .before .before .before .before .before .loop .keys) (c .before .before .before .loop2 .i) (l .d) (l .differ) (l .inv .2) t)
 
--- src/lib.rt:213:9
 add-i : tie.Need-add-i Inv-loop μ-loop Inv-loop3 μ-loop3 Inv-loop2 μ-loop2
 add-i c = search needs
 
--- src/lib.rt:207:5
 loop2-less : tie.Need-loop2-less Inv-loop μ-loop Inv-loop3 μ-loop3 Inv-loop2 μ-loop2
 loop2-less c = search needs
 
--- src/lib.rt:207:5
 loop2-again : tie.Need-loop2-again Inv-loop μ-loop Inv-loop3 μ-loop3 Inv-loop2 μ-loop2
 loop2-again c = let k = c .before .before .before .before .before .loop .keys in
     let i = c .before .before .before .loop2 .i in
@@ -143,7 +117,6 @@ loop2-again c = let k = c .before .before .before .before .before .loop .keys in
     let e : l .d ≡ 17 = omega arith in
     (omega arith, λ t. rows-on k i (l .inv .2 t .0) (subst (λ (x : ℕ). Row k i x) e (l .inv .2 t .1)))
 
--- src/lib.rt:193:1
 returns : tie.Need-returns Inv-loop μ-loop Inv-loop3 μ-loop3 Inv-loop2 μ-loop2
 returns c = let a = c .before .before .before .before .before .args in
     let k = c .before .before .before .loop in

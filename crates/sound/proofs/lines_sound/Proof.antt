@@ -21,36 +21,28 @@ Inv-loop lines n spare i₀ tags₀ ends₀ valid₀ i tags ends valid = (i ≤ 
 abbrev μ-loop : tie.MeasureT-loop
 μ-loop lines n spare i₀ tags₀ ends₀ valid₀ i tags ends valid = length lines - i
 
--- src/lib.rt:71:9
 spare-of-requires : tie.Need-spare-of-requires Inv-loop μ-loop
 spare-of-requires c κs = search needs
 
--- src/lib.rt:76:5
 loop-holds : tie.Need-loop-holds Inv-loop μ-loop
 loop-holds c = let a = c .before .before .args in
     (omega arith, search needs, joined-start fits (now (a .lines)), joined-start (inside (c .spare-of .result)) (now (a .lines)), joined-start odd (now (a .lines)))
 
--- src/lib.rt:77:17
 mul-w : tie.Need-mul-w Inv-loop μ-loop
 mul-w c = search needs
 
--- src/lib.rt:77:17
 shared-slice-read-w : tie.Need-shared-slice-read-w Inv-loop μ-loop
 shared-slice-read-w c = search needs
 
--- src/lib.rt:79:24
 add-ends : tie.Need-add-ends Inv-loop μ-loop
 add-ends c = let s = spared-low (c .before .before .before .before .before .args .n) (c .before .before .before .spare-of .result) (c .before .before .before .spare-of .ensures) in omega arith
 
--- src/lib.rt:81:9
 add-i : tie.Need-add-i Inv-loop μ-loop
 add-i c = search needs
 
--- src/lib.rt:76:5
 loop-less : tie.Need-loop-less Inv-loop μ-loop
 loop-less c = search needs
 
--- src/lib.rt:76:5
 loop-again : tie.Need-loop-again Inv-loop μ-loop
 loop-again c = let a = c .before .before .before .before .before .args in
     let l = c .before .before .loop in
@@ -64,7 +56,6 @@ loop-again c = let a = c .before .before .before .before .before .args in
       joined-on odd (now (a .lines)) (l .i) (eqb (l .valid) 1) (eqb (bitAnd (l .valid) w) 1) (omega arith) (l .inv .4) (and-odd (l .valid) w (l .inv .1)),
     )
 
--- src/lib.rt:84:9
 returns : tie.Need-returns Inv-loop μ-loop
 returns c = let a = c .before .before .before .before .before .args in
     let l = c .before .before .loop in
@@ -72,7 +63,6 @@ returns c = let a = c .before .before .before .before .before .args in
     let g = c .before .before .before .spare-of .ensures in
     sym (tag-out (a .n) s g (now (a .lines)) (joined-end fits (now (a .lines)) (l .i) (ltb (l .tags) 36028797018963968) (omega arith) (l .inv .2) ∙ le-ltb (l .tags) 36028797018963968 (c .if1 .taken)))
 
--- src/lib.rt:87:9
 returns-2 : tie.Need-returns-2 Inv-loop μ-loop
 returns-2 c = let a = c .before .before .before .before .before .before .args in
     let l = c .before .before .before .loop in
@@ -80,7 +70,6 @@ returns-2 c = let a = c .before .before .before .before .before .before .args in
     let g = c .before .before .before .before .spare-of .ensures in
     sym (end-out (a .n) s g (now (a .lines)) (joined-end (inside s) (now (a .lines)) (l .i) (ltb (l .ends) 4294967296) (omega arith) (l .inv .3) ∙ le-ltb (l .ends) 4294967296 (c .if2 .taken)))
 
--- src/lib.rt:90:9
 returns-3 : tie.Need-returns-3 Inv-loop μ-loop
 returns-3 c = let a = c .before .before .before .before .before .before .before .args in
     let l = c .before .before .before .before .loop in
@@ -89,11 +78,9 @@ returns-3 c = let a = c .before .before .before .before .before .before .before 
     let o = joined-end odd (now (a .lines)) (l .i) (eqb (l .valid) 1) (omega arith) (l .inv .4) ∙ eq-eqb (l .valid) 1 (c .if3 .taken) in
     sym (all-in (a .n) s g (now (a .lines)) (joined-end fits (now (a .lines)) (l .i) (ltb (l .tags) 36028797018963968) (omega arith) (l .inv .2) ∙ lt-ltb (l .tags) 36028797018963968 (c .before .before .if1 .left)) (joined-end (inside s) (now (a .lines)) (l .i) (ltb (l .ends) 4294967296) (omega arith) (l .inv .3) ∙ lt-ltb (l .ends) 4294967296 (c .before .if2 .left)) ∙ odds-whole (now (a .lines)) o)
 
--- src/lib.rt:92:5
 empties-sound-requires : tie.Need-empties-sound-requires Inv-loop μ-loop
 empties-sound-requires c κs = search needs
 
--- src/lib.rt:68:1
 returns-4 : tie.Need-returns-4 Inv-loop μ-loop
 returns-4 c = let a = c .before .before .before .before .before .before .before .before .args in
     let l = c .before .before .before .before .before .loop in

@@ -10,19 +10,15 @@ use Rattle.sound.proofs.place_sound.Lts as lts
 use Rattle.sound.proofs.slot_empty.Reads as slot-empty-reads
 use Rattle.sound.proofs.slot_sound.Reads as slot-sound-reads
 
--- src/lib.rt:343:9
 slot-sound-requires : tie.Need-slot-sound-requires
 slot-sound-requires c κs = search needs
 
--- src/lib.rt:343:9
 returns : tie.Need-returns
 returns c = rw (c .before .if1 .taken) (c .slot-sound .ensures)
 
--- src/lib.rt:345:5
 slot-empty-requires : tie.Need-slot-empty-requires
 slot-empty-requires c κs = search needs
 
--- src/lib.rt:339:1
 returns-2 : tie.Need-returns-2
 returns-2 c = rw (c .before .if1 .left) (c .slot-empty .ensures)
 

@@ -20,39 +20,31 @@ Inv-loop pointers i₀ i = (i ≤ length pointers) × (all pointerSound (drop i 
 abbrev μ-loop : tie.MeasureT-loop
 μ-loop pointers i₀ i = length pointers - i
 
--- src/lib.rt:25:5
 loop-holds : tie.Need-loop-holds Inv-loop μ-loop
 loop-holds c = (omega arith, refl)
 
--- src/lib.rt:26:12
 mul-if1 : tie.Need-mul-if1 Inv-loop μ-loop
 mul-if1 c = search needs
 
--- src/lib.rt:26:12
 shared-slice-read-if1 : tie.Need-shared-slice-read-if1 Inv-loop μ-loop
 shared-slice-read-if1 c = search needs
 
--- src/lib.rt:27:13
 returns : tie.Need-returns Inv-loop μ-loop
 returns c = let a = c .before .before .before .before .args in
     let l = c .before .before .before .loop in
     sym (all-no pointerSound (now (a .pointers)) 0 (l .i) (omega arith) (high (getD (now (a .pointers)) (l .i) 0) (c .if1 .taken))) ∙ l .inv .1
 
--- src/lib.rt:29:9
 add-i : tie.Need-add-i Inv-loop μ-loop
 add-i c = search needs
 
--- src/lib.rt:25:5
 loop-less : tie.Need-loop-less Inv-loop μ-loop
 loop-less c = search needs
 
--- src/lib.rt:25:5
 loop-again : tie.Need-loop-again Inv-loop μ-loop
 loop-again c = let a = c .before .before .before .before .args in
     let l = c .before .before .before .loop in
     (omega arith, sym (all-on pointerSound (now (a .pointers)) 0 (l .i) (omega arith) (low (getD (now (a .pointers)) (l .i) 0) (c .if1 .left))) ∙ l .inv .1)
 
--- src/lib.rt:21:1
 returns-2 : tie.Need-returns-2 Inv-loop μ-loop
 returns-2 c = let a = c .before .before .args in
     let l = c .before .loop in

@@ -11,15 +11,12 @@ use Rattle.sound.proofs.same_tag.Tie as tie
 use Rattle.sound.proofs.same_tag.Reads as reads
 use Rattle.sound.proofs.same_tag.Lts as lts
 
--- src/lib.rt:224:13
 returns : tie.Need-returns
 returns c = let a = c .before .before .args in sym (tags-compared (a .v) (a .w) (c .before .if1 .taken) (c .if2 .taken))
 
--- src/lib.rt:219:1
 returns-2 : tie.Need-returns-2
 returns-2 c = let a = c .before .before .args in sym (second-empty (a .v) (a .w) (c .if2 .left))
 
--- src/lib.rt:219:1
 returns-3 : tie.Need-returns-3
 returns-3 c = let a = c .before .args in sym (first-empty (a .v) (a .w) (c .if1 .left))
 

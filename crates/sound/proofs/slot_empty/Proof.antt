@@ -8,15 +8,12 @@ use Rattle.sound.proofs.slot_empty.Reads as reads
 use Rattle.sound.proofs.slot_empty.Lts as lts
 use Rattle.sound.proofs.zero_outside.Reads as zero-outside-reads
 
--- src/lib.rt:333:9
 zero-outside-requires : tie.Need-zero-outside-requires
 zero-outside-requires c κs = search needs
 
--- src/lib.rt:333:9
 returns : tie.Need-returns
 returns c = let a = c .before .before .args in c .zero-outside .ensures ∙ sym (empty-bytes (a .w) (a .b) (c .before .if1 .taken))
 
--- src/lib.rt:329:1
 returns-2 : tie.Need-returns-2
 returns-2 c = let a = c .before .args in sym (empty-no (a .w) (a .b) (c .if1 .left))
 

@@ -8,31 +8,24 @@ use Rattle.sound.proofs.slot_sound.Reads as reads
 use Rattle.sound.proofs.slot_sound.Lts as lts
 use Rattle.sound.proofs.zero_outside.Reads as zero-outside-reads
 
--- src/lib.rt:316:8
 mul-if1 : tie.Need-mul-if1
 mul-if1 c = search needs
 
--- src/lib.rt:316:8
 add-if1 : tie.Need-add-if1
 add-if1 c = search needs
 
--- src/lib.rt:317:9
 returns : tie.Need-returns
 returns c = let a = c .before .args in sym (slot-outside (a .w) (a .b) (a .n) (c .if1 .taken))
 
--- src/lib.rt:320:9
 returns-2 : tie.Need-returns-2
 returns-2 c = let a = c .before .before .args in sym (slot-unmasked (a .w) (a .b) (a .n) (c .before .if1 .left) (c .if2 .taken))
 
--- src/lib.rt:323:9
 returns-3 : tie.Need-returns-3
 returns-3 c = let a = c .before .before .before .args in sym (slot-wide (a .w) (a .b) (a .n) (c .before .before .if1 .left) (c .before .if2 .left) (c .if3 .taken))
 
--- src/lib.rt:325:5
 zero-outside-requires : tie.Need-zero-outside-requires
 zero-outside-requires c κs = search needs
 
--- src/lib.rt:312:1
 returns-4 : tie.Need-returns-4
 returns-4 c = let a = c .before .before .before .before .args in c .zero-outside .ensures ∙ sym (slot-bytes (a .w) (a .b) (a .n) (c .before .before .before .if1 .left) (c .before .before .if2 .left) (c .before .if3 .left))
 

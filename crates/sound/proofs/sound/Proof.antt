@@ -23,67 +23,51 @@ use Rattle.sound.proofs.pointers_sound.Reads as pointers-sound-reads
 use Rattle.sound.proofs.registers_sound.Reads as registers-sound-reads
 use Rattle.sound.proofs.tags_sound.Reads as tags-sound-reads
 
--- src/lib.rt:394:40
 dirty-halves-requires : tie.Need-dirty-halves-requires
 dirty-halves-requires c κs = search needs
 
--- src/lib.rt:394:9
 counts-sound-requires : tie.Need-counts-sound-requires
 counts-sound-requires c κs = search needs
 
--- src/lib.rt:395:23
 registers-sound-requires : tie.Need-registers-sound-requires
 registers-sound-requires c κs = search needs
 
--- src/lib.rt:395:9
 both-requires : tie.Need-both-requires
 both-requires c κs = search needs
 
--- src/lib.rt:396:20
 entries-sound-requires : tie.Need-entries-sound-requires
 entries-sound-requires c κs = search needs
 
--- src/lib.rt:396:9
 both-requires-2 : tie.Need-both-requires-2
 both-requires-2 c κs = search needs
 
--- src/lib.rt:397:23
 buffer-sound-requires : tie.Need-buffer-sound-requires
 buffer-sound-requires c κs = search needs
 
--- src/lib.rt:397:9
 both-requires-3 : tie.Need-both-requires-3
 both-requires-3 c κs = search needs
 
--- src/lib.rt:398:26
 lines-sound-requires : tie.Need-lines-sound-requires
 lines-sound-requires c κs = search needs
 
--- src/lib.rt:398:9
 both-requires-4 : tie.Need-both-requires-4
 both-requires-4 c κs = search needs
 
--- src/lib.rt:399:21
 tags-sound-requires : tie.Need-tags-sound-requires
 tags-sound-requires c κs = search needs
 
--- src/lib.rt:399:9
 both-requires-5 : tie.Need-both-requires-5
 both-requires-5 c κs = search needs
 
--- src/lib.rt:400:21
 pointers-sound-requires : tie.Need-pointers-sound-requires
 pointers-sound-requires c κs = search needs
 
--- src/lib.rt:400:9
 both-requires-6 : tie.Need-both-requires-6
 both-requires-6 c κs = search needs
 
--- src/lib.rt:401:5
 both-requires-7 : tie.Need-both-requires-7
 both-requires-7 c κs = search needs
 
--- src/lib.rt:378:1
 returns : tie.Need-returns
 unfolding sound
 returns c = let a = c .before .before .before .before .before .before .before .before .before .before .before .before .before .before .before .before .before .before .before .before .args in

@@ -24,76 +24,59 @@ Inv-set lines base found₀ p₀ found p = (found ≡ false) × (p ≤ 32) × Ap
 abbrev μ-set : tie.MeasureT-set
 μ-set lines base found₀ p₀ found p = 32 - p
 
--- src/lib.rt:235:8
 keys-differ-requires : tie.Need-keys-differ-requires Inv-loop μ-loop Inv-set μ-set
 keys-differ-requires c κs = search needs
 
--- src/lib.rt:236:9
 returns : tie.Need-returns Inv-loop μ-loop Inv-set μ-set
 returns c = sym (c .before .keys-differ .ensures (c .if1 .taken))
 
--- src/lib.rt:240:5
 set-holds : tie.Need-set-holds Inv-loop μ-loop Inv-set μ-set
 set-holds c = let a = c .before .before .before .args in (refl, search needs, none-apart (now (a .lines)) (a .base))
 
--- src/lib.rt:241:23
 add-w : tie.Need-add-w Inv-loop μ-loop Inv-set μ-set
 add-w c = search needs
 
--- src/lib.rt:241:17
 mul-w : tie.Need-mul-w Inv-loop μ-loop Inv-set μ-set
 mul-w c = search needs
 
--- src/lib.rt:241:17
 shared-slice-read-w : tie.Need-shared-slice-read-w Inv-loop μ-loop Inv-set μ-set
 shared-slice-read-w c = search needs
 
--- src/lib.rt:243:9
 loop-holds : tie.Need-loop-holds Inv-loop μ-loop Inv-set μ-set
 loop-holds c = let a = c .before .before .before .before .before .before .args in
     let s = c .before .before .set in
     (s .inv .0, search needs, none-clear (now (a .lines)) (a .base) (s .p))
 
--- src/lib.rt:244:31
 add-same-tag : tie.Need-add-same-tag Inv-loop μ-loop Inv-set μ-set
 add-same-tag c = search needs
 
--- src/lib.rt:244:25
 mul-same-tag : tie.Need-mul-same-tag Inv-loop μ-loop Inv-set μ-set
 mul-same-tag c = search needs
 
--- src/lib.rt:244:25
 shared-slice-read-same-tag : tie.Need-shared-slice-read-same-tag Inv-loop μ-loop Inv-set μ-set
 shared-slice-read-same-tag c = search needs
 
--- src/lib.rt:244:16
 same-tag-requires : tie.Need-same-tag-requires Inv-loop μ-loop Inv-set μ-set
 same-tag-requires c κs = search needs
 
--- src/lib.rt:248:13
 add-q : tie.Need-add-q Inv-loop μ-loop Inv-set μ-set
 add-q c = search needs
 
--- src/lib.rt:243:9
 loop-less : tie.Need-loop-less Inv-loop μ-loop Inv-set μ-set
 loop-less c = search needs
 
--- src/lib.rt:243:9
 loop-again : tie.Need-loop-again Inv-loop μ-loop Inv-set μ-set
 loop-again c = let a = c .before .before .before .before .before .before .before .before .before .before .before .args in
     let s = c .before .before .before .before .before .before .before .set in
     let l = c .before .before .before .before .loop in
     (l .inv .0, omega arith, clear-on (now (a .lines)) (a .base) (s .p) (l .q) (l .inv .2) (sym (c .before .same-tag .ensures) ∙ c .if2 .left))
 
--- src/lib.rt:250:9
 add-p : tie.Need-add-p Inv-loop μ-loop Inv-set μ-set
 add-p c = search needs
 
--- src/lib.rt:240:5
 set-less : tie.Need-set-less Inv-loop μ-loop Inv-set μ-set
 set-less c = search needs
 
--- src/lib.rt:240:5
 set-again : tie.Need-set-again Inv-loop μ-loop Inv-set μ-set
 set-again c = let a = c .before .before .before .before .before .before .before .before .args in
     let s = c .before .before .before .before .set in
@@ -101,14 +84,12 @@ set-again c = let a = c .before .before .before .before .before .before .before 
     let e : l .q ≡ s .p = omega arith in
     (l .inv .0, omega arith, apart-on (now (a .lines)) (a .base) (s .p) (s .inv .2) (subst (λ (k : ℕ). Clear (now (a .lines)) (a .base) (s .p) k) e (l .inv .2)))
 
--- src/lib.rt:231:1
 returns-2 : tie.Need-returns-2 Inv-loop μ-loop Inv-set μ-set
 returns-2 c = let a = c .before .before .before .before .before .args in
     let s = c .before .set in
     let e : s .p ≡ 32 = omega arith in
     s .inv .0 ∙ sym (set-apart (now (a .lines)) (a .base) (c .before .before .before .before .before .pre .0) (c .before .before .before .before .before .pre .1) (subst (λ (k : ℕ). Apart (now (a .lines)) (a .base) k) e (s .inv .2)))
 
--- src/lib.rt:231:1
 returns-3 : tie.Need-returns-3 Inv-loop μ-loop Inv-set μ-set
 returns-3 c = let a = c .before .before .before .before .before .before .before .before .before .before .before .args in
     let s = c .before .before .before .before .before .before .before .set in

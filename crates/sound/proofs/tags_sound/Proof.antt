@@ -19,39 +19,31 @@ Inv-loop lines s₀ s = (s ≤ 16) × (tagsSound (16 - s) (drop (s * 32) (linesO
 abbrev μ-loop : tie.MeasureT-loop
 μ-loop lines s₀ s = 16 - s
 
--- src/lib.rt:261:5
 loop-holds : tie.Need-loop-holds Inv-loop μ-loop
 loop-holds c = (search needs, refl)
 
--- src/lib.rt:262:29
 mul-tag-twice : tie.Need-mul-tag-twice Inv-loop μ-loop
 mul-tag-twice c = search needs
 
--- src/lib.rt:262:12
 tag-twice-requires : tie.Need-tag-twice-requires Inv-loop μ-loop
 tag-twice-requires c κs = (c .before .before .before .pre, omega arith)
 
--- src/lib.rt:263:13
 returns : tie.Need-returns Inv-loop μ-loop
 returns c = let a = c .before .before .before .before .before .args in
     let l = c .before .before .before .loop in
     sym (set-bad (linesOf (now (a .lines))) (l .s) (omega arith) (sym (c .before .tag-twice .ensures) ∙ c .if1 .taken)) ∙ l .inv .1
 
--- src/lib.rt:265:9
 add-s : tie.Need-add-s Inv-loop μ-loop
 add-s c = search needs
 
--- src/lib.rt:261:5
 loop-less : tie.Need-loop-less Inv-loop μ-loop
 loop-less c = search needs
 
--- src/lib.rt:261:5
 loop-again : tie.Need-loop-again Inv-loop μ-loop
 loop-again c = let a = c .before .before .before .before .before .args in
     let l = c .before .before .before .loop in
     (omega arith, sym (set-good (linesOf (now (a .lines))) (l .s) (omega arith) (sym (c .before .tag-twice .ensures) ∙ c .if1 .left)) ∙ l .inv .1)
 
--- src/lib.rt:256:1
 returns-2 : tie.Need-returns-2 Inv-loop μ-loop
 returns-2 c = let a = c .before .before .before .args in
     let l = c .before .loop in

@@ -18,39 +18,31 @@ Inv-loop mask b i₀ rest₀ i rest = (i ≤ 16) × (zeroOutside rest (drop i b)
 abbrev μ-loop : tie.MeasureT-loop
 μ-loop mask b i₀ rest₀ i rest = 16 - i
 
--- src/lib.rt:300:5
 loop-holds : tie.Need-loop-holds Inv-loop μ-loop
 loop-holds c = (search needs, refl)
 
--- src/lib.rt:301:29
 array-read-byte-sound : tie.Need-array-read-byte-sound Inv-loop μ-loop
 array-read-byte-sound c = search needs
 
--- src/lib.rt:301:12
 byte-sound-requires : tie.Need-byte-sound-requires Inv-loop μ-loop
 byte-sound-requires c κs = search needs
 
--- src/lib.rt:303:13
 add-i : tie.Need-add-i Inv-loop μ-loop
 add-i c = search needs
 
--- src/lib.rt:300:5
 loop-less : tie.Need-loop-less Inv-loop μ-loop
 loop-less c = search needs
 
--- src/lib.rt:300:5
 loop-again : tie.Need-loop-again Inv-loop μ-loop
 loop-again c = let a = c .before .before .before .before .args in
     let l = c .before .before .before .loop in
     (omega arith, sym (outside-on (l .rest) (a .t2) (l .i) (omega arith) (sym (c .before .byte-sound .ensures) ∙ c .if1 .taken)) ∙ l .inv .1)
 
--- src/lib.rt:305:13
 returns : tie.Need-returns Inv-loop μ-loop
 returns c = let a = c .before .before .before .before .args in
     let l = c .before .before .before .loop in
     sym (outside-no (l .rest) (a .t2) (l .i) (omega arith) (sym (c .before .byte-sound .ensures) ∙ c .if1 .left)) ∙ l .inv .1
 
--- src/lib.rt:295:1
 returns-2 : tie.Need-returns-2 Inv-loop μ-loop
 returns-2 c = let a = c .before .before .args in
     let l = c .before .loop in

@@ -18,51 +18,39 @@ Inv-loop calls answers₀ n refusal i₀ answers i = Refusing calls answers₀ n
 abbrev μ-loop : tie.MeasureT-loop
 μ-loop calls answers₀ n refusal i₀ answers i = n - i
 
--- src/lib.rt:396:5
 loop-holds : tie.Need-loop-holds Inv-loop μ-loop
 loop-holds c = let a = c .before .before .args in refusing-start (now (a .calls)) (now (a .answers)) (a .n) (a .refusal) (c .before .before .pre .0) (c .before .before .pre .1)
 
--- src/lib.rt:397:13
 is-call-at-requires : tie.Need-is-call-at-requires Inv-loop μ-loop
 is-call-at-requires c κs = omega (arith, c .before .before .before .before .pre .0 .calls-hold)
 
--- src/lib.rt:398:13
 same-length : tie.Need-same-length Inv-loop μ-loop
 same-length c = c .before .before .before .loop .inv .long
 
--- src/lib.rt:398:13
 returns : tie.Need-returns Inv-loop μ-loop
 returns c = let a = c .before .before .before .before .before .before .args in let l = c .before .before .before .loop in λ m e. refusing-stop (now (a .calls)) (now (a .answers)) (a .n) (a .refusal) (c .before .before .before .before .before .before .pre .0) (c .before .before .before .before .before .before .pre .1) (l .answers) (l .i) (l .inv) m e (c .before .before .loop-test .taken) (sym (c .before .is-call-at .ensures) ∙ not-true _ (c .if1 .taken))
 
--- src/lib.rt:400:22
 code-requires : tie.Need-code-requires Inv-loop μ-loop
 code-requires c κs = search needs
 
--- src/lib.rt:400:9
 mul-answers : tie.Need-mul-answers Inv-loop μ-loop
 mul-answers c = omega (arith, c .before .before .before .before .before .before .before .good .1 .0, c .before .before .before .before .before .before .before .pre .0 .answers-hold)
 
--- src/lib.rt:400:9
 slice-write-answers : tie.Need-slice-write-answers Inv-loop μ-loop
 slice-write-answers c = omega (arith, c .before .before .before .before .before .before .before .pre .0 .answers-hold, c .before .before .before .before .loop .inv .long)
 
--- src/lib.rt:401:9
 add-i : tie.Need-add-i Inv-loop μ-loop
 add-i c = omega (arith, c .before .before .before .before .before .before .before .fits .n)
 
--- src/lib.rt:396:5
 loop-less : tie.Need-loop-less Inv-loop μ-loop
 loop-less c = search needs
 
--- src/lib.rt:396:5
 loop-again : tie.Need-loop-again Inv-loop μ-loop
 loop-again c = let a = c .before .before .before .before .before .before .before .args in let l = c .before .before .before .before .loop in refusing-on (now (a .calls)) (now (a .answers)) (a .n) (a .refusal) (c .before .before .before .before .before .before .before .pre .0) (c .before .before .before .before .before .before .before .pre .1) (l .answers) (l .i) (l .inv) (c .code .result) (c .before .before .before .loop-test .taken) (sym (c .before .before .is-call-at .ensures) ∙ not-false _ (c .before .if1 .left)) (c .code .ensures)
 
--- src/lib.rt:389:1
 same-length-2 : tie.Need-same-length-2 Inv-loop μ-loop
 same-length-2 c = c .before .loop .inv .long
 
--- src/lib.rt:389:1
 returns-2 : tie.Need-returns-2 Inv-loop μ-loop
 returns-2 c = let a = c .before .before .before .before .args in let l = c .before .loop in λ m e. refusing-end (now (a .calls)) (now (a .answers)) (a .n) (a .refusal) (c .before .before .before .before .pre .0) (c .before .before .before .before .pre .1) (l .answers) (l .i) (l .inv) m e (c .loop-test .left)
 

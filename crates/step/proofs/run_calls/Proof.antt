@@ -24,79 +24,61 @@ abbrev μ-loop : tie.MeasureT-loop
 μ-loop table memory₀ words₀ bytes₀ lines₀ pointers₀ store₀ entries₀ calls answers₀ n s₀ i₀ memory words bytes lines pointers store entries answers s i =
     n - i
 
--- src/lib.rt:174:5
 loop-holds : tie.Need-loop-holds Inv-loop μ-loop
 loop-holds c = let a = c .before .before .before .before .before .before .before .before .args in going-start (record { memory = now (a .memory); words = now (a .words); bytes = now (a .bytes); lines = now (a .lines); pointers = now (a .pointers); store = now (a .store) }) (now (a .entries)) (now (a .calls)) (now (a .answers)) (a .first) (a .n) (c .before .before .before .before .before .before .before .before .pre .3) (c .before .before .before .before .before .before .before .before .pre .1) (c .before .before .before .before .before .before .before .before .pre .2) (c .before .before .before .before .before .before .before .before .pre .4)
 
--- src/lib.rt:175:13
 is-call-at-requires : tie.Need-is-call-at-requires Inv-loop μ-loop
 is-call-at-requires c κs = omega (arith, c .before .before .before .before .before .before .before .before .before .before .pre .3 .calls-hold)
 
--- src/lib.rt:176:13
 same-length : tie.Need-same-length Inv-loop μ-loop
 same-length c = c .before .before .before .loop .inv .same .memory
 
--- src/lib.rt:176:13
 same-length-2 : tie.Need-same-length-2 Inv-loop μ-loop
 same-length-2 c = c .before .before .before .loop .inv .same .words
 
--- src/lib.rt:176:13
 same-length-3 : tie.Need-same-length-3 Inv-loop μ-loop
 same-length-3 c = c .before .before .before .loop .inv .same .lines
 
--- src/lib.rt:176:13
 same-length-4 : tie.Need-same-length-4 Inv-loop μ-loop
 same-length-4 c = c .before .before .before .loop .inv .same .pointers
 
--- src/lib.rt:176:13
 same-length-5 : tie.Need-same-length-5 Inv-loop μ-loop
 same-length-5 c = c .before .before .before .loop .inv .same .store
 
--- src/lib.rt:176:13
 same-length-6 : tie.Need-same-length-6 Inv-loop μ-loop
 same-length-6 c = c .before .before .before .loop .inv .same .entries
 
--- src/lib.rt:176:13
 same-length-7 : tie.Need-same-length-7 Inv-loop μ-loop
 same-length-7 c = c .before .before .before .loop .inv .long
 
--- src/lib.rt:176:13
 returns : tie.Need-returns Inv-loop μ-loop
 returns c = let a = c .before .before .before .before .before .before .before .before .before .before .before .before .args in
     let l = c .before .before .before .loop in
     going-stop (record { memory = now (a .memory); words = now (a .words); bytes = now (a .bytes); lines = now (a .lines); pointers = now (a .pointers); store = now (a .store) }) (now (a .entries)) (now (a .calls)) (now (a .answers)) (a .first) (a .n) (c .before .before .before .before .before .before .before .before .before .before .before .before .pre .3) (record { memory = l .memory; words = l .words; bytes = l .bytes; lines = l .lines; pointers = l .pointers; store = l .store }) (l .entries) (l .answers) (l .s) (l .i) (l .inv) (c .before .before .loop-test .taken) (sym (c .before .is-call-at .ensures) ∙ not-true _ (c .if1 .taken))
 
--- src/lib.rt:181:13
 call-at-requires : tie.Need-call-at-requires Inv-loop μ-loop
 call-at-requires c κs = omega (arith, c .before .before .before .before .before .before .before .before .before .before .before .before .pre .3 .calls-hold)
 
--- src/lib.rt:182:13
 step-requires : tie.Need-step-requires Inv-loop μ-loop
 step-requires c κs = let a = c .before .before .before .before .before .before .before .before .before .before .before .before .before .before .before .before .before .before .before .before .args in
     let l = c .before .before .before .before .before .before .before .before .before .before .before .loop in
     (c .before .before .before .before .before .before .before .before .before .before .before .before .before .before .before .before .before .before .before .before .pre .0, l .inv .words-long, l .inv .bytes-long, serves-now (record { memory = now (a .memory); words = now (a .words); bytes = now (a .bytes); lines = now (a .lines); pointers = now (a .pointers); store = now (a .store) }) (now (a .entries)) (now (a .calls)) (now (a .answers)) (a .first) (a .n) (c .before .before .before .before .before .before .before .before .before .before .before .before .before .before .before .before .before .before .before .before .pre .3) (record { memory = l .memory; words = l .words; bytes = l .bytes; lines = l .lines; pointers = l .pointers; store = l .store }) (l .entries) (l .answers) (l .s) (l .i) (l .inv))
 
--- src/lib.rt:195:22
 code-requires : tie.Need-code-requires Inv-loop μ-loop
 code-requires c κs = search needs
 
--- src/lib.rt:195:9
 mul-answers : tie.Need-mul-answers Inv-loop μ-loop
 mul-answers c = omega (arith, c .before .before .before .before .before .before .before .before .before .before .before .before .before .before .before .before .before .before .before .before .before .before .before .before .before .before .before .before .before .before .before .before .before .before .good .1 .1 .1 .1 .1 .1 .1 .1 .1 .1 .0, c .before .before .before .before .before .before .before .before .before .before .before .before .before .before .before .before .before .before .before .before .before .before .before .before .before .before .before .before .before .before .before .before .before .before .pre .3 .answers-hold)
 
--- src/lib.rt:195:9
 slice-write-answers : tie.Need-slice-write-answers Inv-loop μ-loop
 slice-write-answers c = omega (arith, c .before .before .before .before .before .before .before .before .before .before .before .before .before .before .before .before .before .before .before .before .before .before .before .before .before .before .before .before .before .before .before .before .before .before .pre .3 .answers-hold, c .before .before .before .before .before .before .before .before .before .before .before .before .before .before .before .before .before .before .before .before .before .before .before .before .before .loop .inv .long)
 
--- src/lib.rt:198:9
 add-i : tie.Need-add-i Inv-loop μ-loop
 add-i c = omega (arith, c .before .before .before .before .before .before .before .before .before .before .before .before .before .before .before .before .before .before .before .before .before .before .before .before .before .before .before .before .before .before .before .before .before .before .before .fits .n)
 
--- src/lib.rt:174:5
 loop-less : tie.Need-loop-less Inv-loop μ-loop
 loop-less c = search needs
 
--- src/lib.rt:174:5
 loop-again : tie.Need-loop-again Inv-loop μ-loop
 loop-again c = let a = c .before .before .before .before .before .before .before .before .before .before .before .before .before .before .before .before .before .before .before .before .before .before .before .before .before .before .before .before .before .before .before .before .before .before .before .args in
     let l = c .before .before .before .before .before .before .before .before .before .before .before .before .before .before .before .before .before .before .before .before .before .before .before .before .before .before .loop in
@@ -105,35 +87,27 @@ loop-again c = let a = c .before .before .before .before .before .before .before
     let y : SameLengths (record { memory = l .memory; words = l .words; bytes = l .bytes; lines = l .lines; pointers = l .pointers; store = l .store }) k (l .entries) (st .last .1 .1 .1 .1 .1 .1 .1 .0) = record { memory = st .kept .1 .0; words = st .kept .1 .1 .0; lines = st .kept .1 .1 .1 .1 .0; pointers = st .kept .1 .1 .1 .1 .1 .0; store = st .kept .1 .1 .1 .1 .1 .1 .0; entries = st .kept .1 .1 .1 .1 .1 .1 .1 .0 } in
     going-on (record { memory = now (a .memory); words = now (a .words); bytes = now (a .bytes); lines = now (a .lines); pointers = now (a .pointers); store = now (a .store) }) (now (a .entries)) (now (a .calls)) (now (a .answers)) (a .first) (a .n) (c .before .before .before .before .before .before .before .before .before .before .before .before .before .before .before .before .before .before .before .before .before .before .before .before .before .before .before .before .before .before .before .before .before .before .before .pre .3) (record { memory = l .memory; words = l .words; bytes = l .bytes; lines = l .lines; pointers = l .pointers; store = l .store }) (l .entries) (l .answers) (l .s) (l .i) (l .inv) k (st .last .1 .1 .1 .1 .1 .1 .1 .0) (st .result) (c .before .before .before .before .before .before .before .before .before .before .before .before .before .before .before .before .before .before .before .before .before .before .call-at .result) (c .before .code .result) (c .before .before .before .before .before .before .before .before .before .before .before .before .before .before .before .before .before .before .before .before .before .before .before .before .before .loop-test .taken) (sym (c .before .before .before .before .before .before .before .before .before .before .before .before .before .before .before .before .before .before .before .before .before .before .before .before .is-call-at .ensures) ∙ not-false _ (c .before .before .before .before .before .before .before .before .before .before .before .before .before .before .before .before .before .before .before .before .before .before .before .if1 .left)) (c .before .before .before .before .before .before .before .before .before .before .before .before .before .before .before .before .before .before .before .before .before .before .call-at .ensures) (numbers-of _ _ _ _ _ (omega (arith, c .before .before .before .before .before .before .before .before .before .before .before .before .before .before .before .before .before .before .before .before .before .before .before .before .before .before .before .before .shared-slice-known .given (l .i * 5 + 3))) (omega (arith, c .before .before .before .before .before .before .before .before .before .before .before .before .before .before .before .before .before .before .before .before .before .before .before .before .before .before .before .before .shared-slice-known .given (l .i * 5 + 4)))) (st .ensures .0) y (st .ensures .1) (c .before .code .ensures)
 
--- src/lib.rt:151:1
 same-length-8 : tie.Need-same-length-8 Inv-loop μ-loop
 same-length-8 c = c .before .loop .inv .same .memory
 
--- src/lib.rt:151:1
 same-length-9 : tie.Need-same-length-9 Inv-loop μ-loop
 same-length-9 c = c .before .loop .inv .same .words
 
--- src/lib.rt:151:1
 same-length-10 : tie.Need-same-length-10 Inv-loop μ-loop
 same-length-10 c = c .before .loop .inv .same .lines
 
--- src/lib.rt:151:1
 same-length-11 : tie.Need-same-length-11 Inv-loop μ-loop
 same-length-11 c = c .before .loop .inv .same .pointers
 
--- src/lib.rt:151:1
 same-length-12 : tie.Need-same-length-12 Inv-loop μ-loop
 same-length-12 c = c .before .loop .inv .same .store
 
--- src/lib.rt:151:1
 same-length-13 : tie.Need-same-length-13 Inv-loop μ-loop
 same-length-13 c = c .before .loop .inv .same .entries
 
--- src/lib.rt:151:1
 same-length-14 : tie.Need-same-length-14 Inv-loop μ-loop
 same-length-14 c = c .before .loop .inv .long
 
--- src/lib.rt:151:1
 returns-2 : tie.Need-returns-2 Inv-loop μ-loop
 returns-2 c = let a = c .before .before .before .before .before .before .before .before .before .before .args in
     let l = c .before .loop in

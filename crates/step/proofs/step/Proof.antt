@@ -15,23 +15,18 @@ use Rattle.step.proofs.refusal.Reads as refusal-reads
 use Rattle.step.proofs.counted.Reads as counted-reads
 use Rattle.step.proofs.done.Reads as done-reads
 
--- src/lib.rt:116:9
 returns : tie.Need-returns
 returns c = let a = c .before .before .before .before .before .before .before .before .args in (sym (refused-five (record { memory = now (a .memory); words = now (a .words); bytes = now (a .bytes); lines = now (a .lines); pointers = now (a .pointers); store = now (a .store) }) (now (a .entries)) (a .s) (length (now (a .memory))) (c .before .before .before .before .before .before .before .before .pre .3) (a .c) (c .if1 .taken)), c .before .before .before .before .before .before .before .before .pre .2)
 
--- src/lib.rt:121:9
 refusal-requires : tie.Need-refusal-requires
 refusal-requires c κs = search needs
 
--- src/lib.rt:123:9
 returns-2 : tie.Need-returns-2
 returns-2 c = let a = c .before .before .before .before .before .before .before .before .before .before .args in (sym (refused-by (record { memory = now (a .memory); words = now (a .words); bytes = now (a .bytes); lines = now (a .lines); pointers = now (a .pointers); store = now (a .store) }) (now (a .entries)) (a .s) (length (now (a .memory))) (c .before .before .before .before .before .before .before .before .before .before .pre .3) (a .c) (c .before .before .if1 .left) _ (c .before .refusal .ensures) (c .if2 .taken)), c .before .before .before .before .before .before .before .before .before .before .pre .2)
 
--- src/lib.rt:137:9
 counted-requires : tie.Need-counted-requires
 counted-requires c κs = search needs
 
--- src/lib.rt:128:5
 done-requires : tie.Need-done-requires
 done-requires c κs = let a = c .before .before .before .before .before .before .before .before .before .before .before .before .before .before .before .before .before .before .args in
     let l : Lists = record { memory = now (a .memory); words = now (a .words); bytes = now (a .bytes); lines = now (a .lines); pointers = now (a .pointers); store = now (a .store) } in
@@ -41,31 +36,24 @@ done-requires c κs = let a = c .before .before .before .before .before .before 
     let e = sym (c .counted .ensures) in
     (c .before .before .before .before .before .before .before .before .before .before .before .before .before .before .before .before .before .before .pre .0, subst (λ (s : Small). TlbReady (now (a .entries)) s) e (tlb-ready l (now (a .entries)) (a .s) n k low), subst (λ (s : Small). SideReady l s) e (side-ready l (now (a .entries)) (a .s) n k low (fits-all l (now (a .entries)) (a .s) n k (c .before .before .before .before .before .before .before .before .before .before .before .before .before .before .before .before .before .before .pre .1) (c .before .before .before .before .before .before .before .before .before .before .before .before .before .before .before .before .before .before .pre .2))), subst (λ (s : Small). s .cp15 .registers .control < 8192) e (control-low l (now (a .entries)) (a .s) n k), sym (c .before .before .before .before .before .before .before .before .before .refusal .ensures) ∙ c .before .before .before .before .before .before .before .before .if2 .left)
 
--- src/lib.rt:97:1
 same-length : tie.Need-same-length
 same-length c = search needs
 
--- src/lib.rt:97:1
 same-length-2 : tie.Need-same-length-2
 same-length-2 c = search needs
 
--- src/lib.rt:97:1
 same-length-3 : tie.Need-same-length-3
 same-length-3 c = search needs
 
--- src/lib.rt:97:1
 same-length-4 : tie.Need-same-length-4
 same-length-4 c = search needs
 
--- src/lib.rt:97:1
 same-length-5 : tie.Need-same-length-5
 same-length-5 c = search needs
 
--- src/lib.rt:97:1
 same-length-6 : tie.Need-same-length-6
 same-length-6 c = search needs
 
--- src/lib.rt:97:1
 returns-3 : tie.Need-returns-3
 returns-3 c = let a = c .before .before .before .before .before .before .before .before .before .before .before .before .before .before .before .before .before .before .before .before .before .before .before .before .before .before .before .before .before .before .before .args in
     (rw (c .before .before .before .before .before .before .before .before .before .before .before .before .before .counted .ensures) at (c .before .before .before .before .before .before .before .before .before .before .before .before .done .ensures .0 (length (now (a .memory)))) ∙ sym (not-refused (record { memory = now (a .memory); words = now (a .words); bytes = now (a .bytes); lines = now (a .lines); pointers = now (a .pointers); store = now (a .store) }) (now (a .entries)) (a .s) (length (now (a .memory))) (c .before .before .before .before .before .before .before .before .before .before .before .before .before .before .before .before .before .before .before .before .before .before .before .before .before .before .before .before .before .before .before .pre .3) (a .c) (c .before .before .before .before .before .before .before .before .before .before .before .before .before .before .before .before .before .before .before .before .before .before .before .if1 .left) (sym (c .before .before .before .before .before .before .before .before .before .before .before .before .before .before .before .before .before .before .before .before .before .before .refusal .ensures) ∙ c .before .before .before .before .before .before .before .before .before .before .before .before .before .before .before .before .before .before .before .before .before .if2 .left)), c .before .before .before .before .before .before .before .before .before .before .before .before .done .ensures .1)

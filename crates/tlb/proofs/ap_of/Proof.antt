@@ -8,31 +8,24 @@ use Rattle.tlb.proofs.ap_of.Tie as tie
 use Rattle.tlb.proofs.ap_of.Reads as reads
 use Rattle.tlb.proofs.ap_of.Lts as lts
 
--- src/lib.rt:106:9
 returns : tie.Need-returns
 returns c = (sym (ap-section _ (c .before .before .before .args .va) (c .before .if1 .taken)), search needs)
 
--- src/lib.rt:109:27
 mul-result : tie.Need-mul-result
 mul-result c = search needs
 
--- src/lib.rt:109:17
 shr-result : tie.Need-shr-result
 shr-result c = search needs
 
--- src/lib.rt:109:9
 returns-2 : tie.Need-returns-2
 returns-2 c = (sym (ap-large (c .before .before .before .before .before .before .args .e) (c .before .before .before .before .before .before .args .va) (c .before .before .if2 .taken)), search needs)
 
--- src/lib.rt:111:16
 mul-result-2 : tie.Need-mul-result-2
 mul-result-2 c = search needs
 
--- src/lib.rt:111:6
 shr-result-2 : tie.Need-shr-result-2
 shr-result-2 c = search needs
 
--- src/lib.rt:102:1
 returns-3 : tie.Need-returns-3
 returns-3 c = (sym (ap-small (c .before .before .before .before .before .before .args .e) (c .before .before .before .before .before .before .args .va) (c .before .before .before .before .if1 .left) (c .before .before .if2 .left)), search needs)
 

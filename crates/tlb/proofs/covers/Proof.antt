@@ -8,39 +8,30 @@ use Rattle.tlb.proofs.covers.Tie as tie
 use Rattle.tlb.proofs.covers.Reads as reads
 use Rattle.tlb.proofs.covers.Lts as lts
 
--- src/lib.rt:56:9
 returns : tie.Need-returns
 returns c = sym (covers-invalid _ _ (c .if1 .taken))
 
--- src/lib.rt:59:18
 mul-vbase : tie.Need-mul-vbase
 mul-vbase c = search needs
 
--- src/lib.rt:59:17
 cast-vbase : tie.Need-cast-vbase
 cast-vbase c = search needs
 
--- src/lib.rt:61:16
 mul-result : tie.Need-mul-result
 mul-result c = search needs
 
--- src/lib.rt:61:9
 returns-2 : tie.Need-returns-2
 returns-2 c = sym (covers-section (c .before .before .before .args .va) (c .before .before .before .args .w) (c .before .before .if1 .left) (c .before .if2 .taken))
 
--- src/lib.rt:64:16
 mul-result-2 : tie.Need-mul-result-2
 mul-result-2 c = search needs
 
--- src/lib.rt:64:9
 returns-3 : tie.Need-returns-3
 returns-3 c = sym (covers-large (c .before .before .before .before .args .va) (c .before .before .before .before .args .w) (c .before .before .before .if1 .left) (c .before .if3 .taken))
 
--- src/lib.rt:66:5
 mul-result-3 : tie.Need-mul-result-3
 mul-result-3 c = search needs
 
--- src/lib.rt:52:1
 returns-4 : tie.Need-returns-4
 returns-4 c = sym (covers-small (c .before .before .before .before .args .va) (c .before .before .before .before .args .w) (c .before .before .before .if1 .left) (c .before .before .if2 .left) (c .before .if3 .left))
 

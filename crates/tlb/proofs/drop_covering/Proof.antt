@@ -21,49 +21,38 @@ Inv-loop entries₀ va i₀ entries i = (i ≤ 32) × (length entries ≡ 32) ×
 abbrev μ-loop : tie.MeasureT-loop
 μ-loop entries₀ va i₀ entries i = 32 - i
 
--- src/lib.rt:155:5
 loop-holds : tie.Need-loop-holds Inv-loop μ-loop
 loop-holds c = (search needs, search needs, upto-start (keptOf (c .before .args .va)) (entriesOf (now (c .before .args .entries))))
 
--- src/lib.rt:156:27
 mul-kept : tie.Need-mul-kept Inv-loop μ-loop
 mul-kept c = search needs
 
--- src/lib.rt:156:27
 slice-read-kept : tie.Need-slice-read-kept Inv-loop μ-loop
 slice-read-kept c = omega arith
 
--- src/lib.rt:156:22
 kept-requires : tie.Need-kept-requires Inv-loop μ-loop
 kept-requires c κs = search needs
 
--- src/lib.rt:156:9
 mul-entries : tie.Need-mul-entries Inv-loop μ-loop
 mul-entries c = search needs
 
--- src/lib.rt:156:9
 slice-write-entries : tie.Need-slice-write-entries Inv-loop μ-loop
 slice-write-entries c = omega arith
 
--- src/lib.rt:157:9
 add-i : tie.Need-add-i Inv-loop μ-loop
 add-i c = search needs
 
--- src/lib.rt:155:5
 loop-less : tie.Need-loop-less Inv-loop μ-loop
 loop-less c = search needs
 
--- src/lib.rt:155:5
 loop-again : tie.Need-loop-again Inv-loop μ-loop
 loop-again c = let l = c .before .before .before .loop in
     let a = c .before .before .before .before .before .args in
     (omega arith, simp length-set (l .inv .1), entries-step (keptOf (a .va)) (now (a .entries)) (l .entries) (l .i) (c .kept .result) (l .inv .2) (omega arith) (c .kept .ensures))
 
--- src/lib.rt:150:1
 same-length : tie.Need-same-length Inv-loop μ-loop
 same-length c = search needs
 
--- src/lib.rt:150:1
 returns : tie.Need-returns Inv-loop μ-loop
 returns c = let l = c .before .loop in
     let a = c .before .before .before .args in

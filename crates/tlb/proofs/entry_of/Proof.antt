@@ -9,35 +9,27 @@ use Rattle.tlb.proofs.entry_of.Tie as tie
 use Rattle.tlb.proofs.entry_of.Reads as reads
 use Rattle.tlb.proofs.entry_of.Lts as lts
 
--- src/lib.rt:21:15
 cast-t6 : tie.Need-cast-t6
 cast-t6 c = search needs
 
--- src/lib.rt:22:17
 mul-t8 : tie.Need-mul-t8
 mul-t8 c = search needs
 
--- src/lib.rt:22:16
 cast-t9 : tie.Need-cast-t9
 cast-t9 c = search needs
 
--- src/lib.rt:23:17
 mul-t12 : tie.Need-mul-t12
 mul-t12 c = search needs
 
--- src/lib.rt:23:16
 cast-t13 : tie.Need-cast-t13
 cast-t13 c = search needs
 
--- src/lib.rt:24:17
 cast-t16 : tie.Need-cast-t16
 cast-t16 c = search needs
 
--- src/lib.rt:25:14
 cast-t19 : tie.Need-cast-t19
 cast-t19 c = search needs
 
--- src/lib.rt:16:1
 returns : tie.Need-returns
 unfolding entryOf
 returns c = let w = c .args .w in let e : w / 1 % 2 ≡ w % 2 = omega arith in rw e

@@ -20,36 +20,28 @@ Inv-loop entries₀ i₀ entries i = (i ≤ 32) × (length entries ≡ 32) × Up
 abbrev μ-loop : tie.MeasureT-loop
 μ-loop entries₀ i₀ entries i = 32 - i
 
--- src/lib.rt:136:5
 loop-holds : tie.Need-loop-holds Inv-loop μ-loop
 loop-holds c = (search needs, search needs, upto-start emptied (entriesOf (now (c .args .entries))))
 
--- src/lib.rt:137:9
 mul-entries : tie.Need-mul-entries Inv-loop μ-loop
 mul-entries c = search needs
 
--- src/lib.rt:137:9
 slice-write-entries : tie.Need-slice-write-entries Inv-loop μ-loop
 slice-write-entries c = omega arith
 
--- src/lib.rt:138:9
 add-i : tie.Need-add-i Inv-loop μ-loop
 add-i c = search needs
 
--- src/lib.rt:136:5
 loop-less : tie.Need-loop-less Inv-loop μ-loop
 loop-less c = search needs
 
--- src/lib.rt:136:5
 loop-again : tie.Need-loop-again Inv-loop μ-loop
 loop-again c = let l = c .before .loop in
     (omega arith, simp length-set (l .inv .1), entries-step emptied (now (c .before .before .args .entries)) (l .entries) (l .i) 0 (l .inv .2) (omega arith) entry-zero)
 
--- src/lib.rt:131:1
 same-length : tie.Need-same-length Inv-loop μ-loop
 same-length c = search needs
 
--- src/lib.rt:131:1
 returns : tie.Need-returns Inv-loop μ-loop
 returns c = let l = c .before .loop in
     flush-end (now (c .before .before .args .entries)) (l .entries) (l .i) (l .inv .2) (search needs) (omega arith)

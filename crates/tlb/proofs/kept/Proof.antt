@@ -10,15 +10,12 @@ use Rattle.tlb.proofs.kept.Reads as reads
 use Rattle.tlb.proofs.kept.Lts as lts
 use Rattle.tlb.proofs.covers.Reads as covers-reads
 
--- src/lib.rt:146:8
 covers-requires : tie.Need-covers-requires
 covers-requires c κs = search needs
 
--- src/lib.rt:143:1
 returns : tie.Need-returns
 returns c = let a = c .before .before .args in entry-zero ∙ rw (← c .before .covers .ensures, c .if1 .taken)
 
--- src/lib.rt:143:1
 returns-2 : tie.Need-returns-2
 returns-2 c = let a = c .before .before .args in rw (← c .before .covers .ensures, c .if1 .left)
 

@@ -6,35 +6,27 @@ use Rattle.tlb.proofs.keys_of.Tie as tie
 use Rattle.tlb.proofs.keys_of.Reads as reads
 use Rattle.tlb.proofs.keys_of.Lts as lts
 
--- src/lib.rt:80:16
 cast-page : tie.Need-cast-page
 cast-page c = search needs
 
--- src/lib.rt:82:18
 mul-t5 : tie.Need-mul-t5
 mul-t5 c = search needs
 
--- src/lib.rt:82:18
 add-t6 : tie.Need-add-t6
 add-t6 c = search needs
 
--- src/lib.rt:83:16
 mul-t8 : tie.Need-mul-t8
 mul-t8 c = search needs
 
--- src/lib.rt:83:16
 add-t9 : tie.Need-add-t9
 add-t9 c = search needs
 
--- src/lib.rt:84:16
 mul-t10 : tie.Need-mul-t10
 mul-t10 c = search needs
 
--- src/lib.rt:84:16
 add-t11 : tie.Need-add-t11
 add-t11 c = search needs
 
--- src/lib.rt:77:1
 returns : tie.Need-returns
 unfolding keysOf
 returns c = refl

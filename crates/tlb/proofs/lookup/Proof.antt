@@ -25,48 +25,38 @@ Inv-loop entries k i₀ i =
 abbrev μ-loop : tie.MeasureT-loop
 μ-loop entries k i₀ i = 32 - i
 
--- src/lib.rt:110:9
 keys-of-requires : tie.Need-keys-of-requires Inv-loop μ-loop
 keys-of-requires c κs = search needs
 
--- src/lib.rt:112:9
 loop-holds : tie.Need-loop-holds Inv-loop μ-loop
 unfolding spec.lookup
 loop-holds c = (search needs, λ va e. refl)
 
--- src/lib.rt:116:20
 mul-has-key : tie.Need-mul-has-key Inv-loop μ-loop
 mul-has-key c = search needs
 
--- src/lib.rt:116:20
 shared-slice-read-has-key : tie.Need-shared-slice-read-has-key Inv-loop μ-loop
 shared-slice-read-has-key c = search needs
 
--- src/lib.rt:116:12
 has-key-requires : tie.Need-has-key-requires Inv-loop μ-loop
 has-key-requires c κs = search needs
 
--- src/lib.rt:119:9
 add-i : tie.Need-add-i Inv-loop μ-loop
 add-i c = search needs
 
--- src/lib.rt:112:9
 loop-less : tie.Need-loop-less Inv-loop μ-loop
 loop-less c = search needs
 
--- src/lib.rt:112:9
 loop-again : tie.Need-loop-again Inv-loop μ-loop
 loop-again c = let a = c .before .before .before .before .before .before .before .args in
     let l = c .before .before .before .before .loop in
     (omega arith, λ va e. sym (lookup-on (now (a .entries)) va (l .i) (omega arith) (sym (c .before .has-key .ensures va e (c .before .before .before .before .before .before .before .pre .1 (l .i) (omega arith) .size)) ∙ c .if2 .left)) ∙ l .inv .1 va e)
 
--- src/lib.rt:106:1
 returns : tie.Need-returns Inv-loop μ-loop
 returns c = let a = c .before .before .before .before .args in
     let l = c .before .loop in
     sym (lookup-end (now (a .entries)) (a .va) (l .i) (omega arith)) ∙ l .inv .1 (a .va) (c .before .before .keys-of .ensures)
 
--- src/lib.rt:106:1
 returns-2 : tie.Need-returns-2 Inv-loop μ-loop
 returns-2 c = let a = c .before .before .before .before .before .before .before .args in
     let l = c .before .before .before .before .loop in

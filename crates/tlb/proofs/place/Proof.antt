@@ -9,23 +9,18 @@ use Rattle.tlb.proofs.place.Reads as reads
 use Rattle.tlb.proofs.place.Lts as lts
 use Rattle.tlb.proofs.word_of.Reads as word-of-reads
 
--- src/lib.rt:119:33
 word-of-requires : tie.Need-word-of-requires
 word-of-requires c κs = search needs
 
--- src/lib.rt:119:5
 mul-entries : tie.Need-mul-entries
 mul-entries c = search needs
 
--- src/lib.rt:119:5
 slice-write-entries : tie.Need-slice-write-entries
 slice-write-entries c = search needs
 
--- src/lib.rt:115:1
 same-length : tie.Need-same-length
 same-length c = search needs
 
--- src/lib.rt:115:1
 returns : tie.Need-returns
 returns c = place-at (now (c .before .before .args .entries)) (c .before .before .args .pointer) (c .word-of .result) (c .before .before .args .e) (c .before .before .pre .2) (c .word-of .ensures)
 

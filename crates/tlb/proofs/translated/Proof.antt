@@ -8,27 +8,21 @@ use Rattle.tlb.proofs.translated.Tie as tie
 use Rattle.tlb.proofs.translated.Reads as reads
 use Rattle.tlb.proofs.translated.Lts as lts
 
--- src/lib.rt:93:32
 add-t5 : tie.Need-add-t5
 add-t5 c = omega (arith, c .before .before .before .before .pre .section (c .before .before .if1 .taken))
 
--- src/lib.rt:93:9
 returns : tie.Need-returns
 returns c = sym (translated-section (c .before .before .before .before .args .e) (c .before .before .before .before .args .va) (c .before .before .if1 .taken))
 
--- src/lib.rt:96:32
 add-t7 : tie.Need-add-t7
 add-t7 c = omega (arith, c .before .before .before .before .before .before .pre .large (c .before .before .if2 .taken))
 
--- src/lib.rt:96:9
 returns-2 : tie.Need-returns-2
 returns-2 c = sym (translated-large (c .before .before .before .before .before .before .args .e) (c .before .before .before .before .before .before .args .va) (c .before .before .if2 .taken))
 
--- src/lib.rt:98:21
 add-t9 : tie.Need-add-t9
 add-t9 c = omega (arith, c .before .before .before .before .before .before .pre)
 
--- src/lib.rt:88:1
 returns-3 : tie.Need-returns-3
 returns-3 c = sym (translated-small (c .before .before .before .before .before .before .args .e) (c .before .before .before .before .before .before .args .va) (c .before .before .before .before .if1 .left) (c .before .before .if2 .left))
 

@@ -6,107 +6,81 @@ use Rattle.tlb.proofs.word_of.Reads as reads
 use Rattle.tlb.proofs.word_of.Lts as lts
 use Rattle.values.proofs.bit_number.Reads as bit-number-reads
 
--- src/lib.rt:36:17
 cast-bases : tie.Need-cast-bases
 cast-bases c = search needs
 
--- src/lib.rt:36:54
 cast-bases-2 : tie.Need-cast-bases-2
 cast-bases-2 c = search needs
 
--- src/lib.rt:36:43
 mul-bases : tie.Need-mul-bases
 mul-bases c = search needs
 
--- src/lib.rt:36:17
 add-bases : tie.Need-add-bases
 add-bases c = search needs
 
--- src/lib.rt:37:16
 cast-high : tie.Need-cast-high
 cast-high c = search needs
 
--- src/lib.rt:37:41
 cast-high-2 : tie.Need-cast-high-2
 cast-high-2 c = search needs
 
--- src/lib.rt:37:56
 mul-high : tie.Need-mul-high
 mul-high c = search needs
 
--- src/lib.rt:37:41
 add-high : tie.Need-add-high
 add-high c = search needs
 
--- src/lib.rt:37:34
 mul-high-2 : tie.Need-mul-high-2
 mul-high-2 c = search needs
 
--- src/lib.rt:37:16
 add-high-2 : tie.Need-add-high-2
 add-high-2 c = search needs
 
--- src/lib.rt:38:17
 bit-number-requires : tie.Need-bit-number-requires
 bit-number-requires c κs = search needs
 
--- src/lib.rt:38:17
 cast-valid : tie.Need-cast-valid
 cast-valid c = search needs
 
--- src/lib.rt:39:21
 bit-number-requires-2 : tie.Need-bit-number-requires-2
 bit-number-requires-2 c κs = search needs
 
--- src/lib.rt:39:21
 cast-cacheable : tie.Need-cast-cacheable
 cast-cacheable c = search needs
 
--- src/lib.rt:40:22
 bit-number-requires-3 : tie.Need-bit-number-requires-3
 bit-number-requires-3 c κs = search needs
 
--- src/lib.rt:40:22
 cast-bufferable : tie.Need-cast-bufferable
 cast-bufferable c = search needs
 
--- src/lib.rt:41:53
 cast-result : tie.Need-cast-result
 cast-result c = search needs
 
--- src/lib.rt:41:69
 mul-result : tie.Need-mul-result
 mul-result c = search needs
 
--- src/lib.rt:41:53
 add-result : tie.Need-add-result
 add-result c = search needs
 
--- src/lib.rt:41:48
 mul-result-2 : tie.Need-mul-result-2
 mul-result-2 c = search needs
 
--- src/lib.rt:41:35
 add-result-2 : tie.Need-add-result-2
 add-result-2 c = search needs
 
--- src/lib.rt:41:30
 mul-result-3 : tie.Need-mul-result-3
 mul-result-3 c = search needs
 
--- src/lib.rt:41:18
 add-result-3 : tie.Need-add-result-3
 add-result-3 c = search needs
 
--- src/lib.rt:41:13
 mul-result-4 : tie.Need-mul-result-4
 mul-result-4 c = search needs
 
--- src/lib.rt:41:5
 add-result-4 : tie.Need-add-result-4
 add-result-4 c = search needs
 
--- src/lib.rt:32:1
 returns : tie.Need-returns
 unfolding wordOf
 returns c = rw (c .before .before .before .bit-number .ensures .0, c .before .before .bit-number2 .ensures .0, c .before .bit-number3 .ensures .0)

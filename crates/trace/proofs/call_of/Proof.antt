@@ -13,47 +13,37 @@ use Rattle.trace.proofs.call_of.Lts as lts
 use Rattle.trace.proofs.access_of.Reads as access-of-reads
 use Rattle.trace.proofs.transfer_of.Reads as transfer-of-reads
 
--- src/lib.rt:39:27
 access-of-requires : tie.Need-access-of-requires
 access-of-requires c κs = search needs
 
--- src/lib.rt:39:9
 returns : tie.Need-returns
 unfolding callOf
 returns c = rw (c .before .if1 .taken) (ap Load (c .access-of .ensures))
 
--- src/lib.rt:42:33
 access-of-requires-2 : tie.Need-access-of-requires-2
 access-of-requires-2 c κs = search needs
 
--- src/lib.rt:42:9
 returns-2 : tie.Need-returns-2
 unfolding callOf
 returns-2 c = rw (c .before .if2 .taken) (ap SignedLoad (c .access-of2 .ensures))
 
--- src/lib.rt:45:28
 access-of-requires-3 : tie.Need-access-of-requires-3
 access-of-requires-3 c κs = search needs
 
--- src/lib.rt:45:9
 returns-3 : tie.Need-returns-3
 unfolding callOf
 returns-3 c = let v = c .before .before .before .before .args .v in rw (c .before .if3 .taken) (ap (λ (a : Access). Store a v) (c .access-of3 .ensures))
 
--- src/lib.rt:48:27
 transfer-of-requires : tie.Need-transfer-of-requires
 transfer-of-requires c κs = search needs
 
--- src/lib.rt:48:9
 returns-4 : tie.Need-returns-4
 unfolding callOf
 returns-4 c = rw (c .before .if4 .taken) (ap Read (c .transfer-of .ensures))
 
--- src/lib.rt:50:17
 transfer-of-requires-2 : tie.Need-transfer-of-requires-2
 transfer-of-requires-2 c κs = search needs
 
--- src/lib.rt:35:1
 returns-5 : tie.Need-returns-5
 unfolding callOf
 returns-5 c = let v = c .before .before .before .before .before .args .v in

@@ -15,82 +15,63 @@ use Rattle.trace.proofs.code.Lts as lts
 use Rattle.trace.proofs.unsigned.Reads as unsigned-reads
 use Rattle.values.proofs.status_number.Reads as status-number-reads
 
--- src/lib.rt:90:23
 enum-known-a : tie.Need-enum-known-a
 enum-known-a c = search needs
 
--- src/lib.rt:90:29
 cast-result : tie.Need-cast-result
 cast-result c = search needs
 
--- src/lib.rt:91:24
 enum-known-a-2 : tie.Need-enum-known-a-2
 enum-known-a-2 c = search needs
 
--- src/lib.rt:91:30
 unsigned-requires : tie.Need-unsigned-requires
 unsigned-requires c κs = search needs
 
--- src/lib.rt:91:30
 cast-result-2 : tie.Need-cast-result-2
 cast-result-2 c = search needs
 
--- src/lib.rt:92:23
 enum-known-a-3 : tie.Need-enum-known-a-3
 enum-known-a-3 c = search needs
 
--- src/lib.rt:94:27
 cast-result-3 : tie.Need-cast-result-3
 cast-result-3 c = search needs
 
--- src/lib.rt:94:26
 mul-result : tie.Need-mul-result
 mul-result c = search needs
 
--- src/lib.rt:94:13
 add-result : tie.Need-add-result
 add-result c = search needs
 
--- src/lib.rt:94:52
 status-number-requires : tie.Need-status-number-requires
 status-number-requires c κs = search needs
 
--- src/lib.rt:94:52
 cast-result-4 : tie.Need-cast-result-4
 cast-result-4 c = search needs
 
--- src/lib.rt:94:13
 add-result-2 : tie.Need-add-result-2
 add-result-2 c = search needs
 
--- src/lib.rt:96:25
 enum-known-a-4 : tie.Need-enum-known-a-4
 enum-known-a-4 c = search needs
 
--- src/lib.rt:96:45
 cast-result-5 : tie.Need-cast-result-5
 cast-result-5 c = search needs
 
--- src/lib.rt:96:31
 add-result-3 : tie.Need-add-result-3
 add-result-3 c = search needs
 
--- src/lib.rt:86:1
 returns : tie.Need-returns
 returns c = rw (c .before .a .given .1) (omega arith)
 
--- src/lib.rt:86:1
 returns-2 : tie.Need-returns-2
 returns-2 c = let z : ℤ = c .before .before .a2 .given .0 .0 in
     let f : SFits w32 z = search needs in
     let e : c .unsigned .result ≡ unsignedOf z = c .unsigned .ensures ∙ ap unsignedOf (toZ-ofZ f) in
     rw (c .before .before .a2 .given .1) (omega arith)
 
--- src/lib.rt:86:1
 returns-3 : tie.Need-returns-3
 returns-3 c = rw (c .before .before .before .a3 .given .1) (omega (arith, c .status-number .ensures .0))
 
--- src/lib.rt:86:1
 returns-4 : tie.Need-returns-4
 returns-4 c = rw (c .before .a4 .given .1) (omega arith)
 

@@ -6,23 +6,18 @@ use Rattle.trace.proofs.unsigned.Tie as tie
 use Rattle.trace.proofs.unsigned.Reads as reads
 use Rattle.trace.proofs.unsigned.Lts as lts
 
--- src/lib.rt:79:23
 cast-result : tie.Need-cast-result
 cast-result c = negative-cast (c .before .args .z) (search needs) (c .if1 .taken)
 
--- src/lib.rt:79:9
 sub-result : tie.Need-sub-result
 sub-result c = negative-size (c .before .args .z) (search needs) (c .if1 .taken)
 
--- src/lib.rt:81:9
 cast-result-2 : tie.Need-cast-result-2
 cast-result-2 c = positive-cast (c .before .args .z) (search needs) (c .if1 .left)
 
--- src/lib.rt:75:1
 returns : tie.Need-returns
 returns c = negative-bits (c .before .args .z) (search needs) (c .if1 .taken)
 
--- src/lib.rt:75:1
 returns-2 : tie.Need-returns-2
 returns-2 c = positive-bits (c .before .args .z) (search needs) (c .if1 .left)
 

@@ -13,33 +13,27 @@ use Rattle.translation.proofs.buffers.Lts as lts
 use Rattle.values.proofs.mmu.Reads as mmu-reads
 use Rattle.values.proofs.write_buffer.Reads as write-buffer-reads
 
--- src/lib.rt:218:8
 mmu-requires : tie.Need-mmu-requires
 mmu-requires c κs = search needs
 
--- src/lib.rt:219:12
 write-buffer-requires : tie.Need-write-buffer-requires
 write-buffer-requires c κs = search needs
 
--- src/lib.rt:221:17
 returns : tie.Need-returns
 returns c = let e : mmu (c .before .before .before .before .before .args .r) ≡ true = sym (c .before .before .before .before .mmu .ensures) ∙ c .before .before .before .if1 .taken in
     let f : writeBuffer (c .before .before .before .before .before .args .r) ≡ true = sym (c .before .before .write-buffer .ensures) ∙ c .before .if2 .taken in
     rw (e, f, c .if3 .taken)
 
--- src/lib.rt:223:13
 returns-2 : tie.Need-returns-2
 returns-2 c = let e : mmu (c .before .before .before .before .before .args .r) ≡ true = sym (c .before .before .before .before .mmu .ensures) ∙ c .before .before .before .if1 .taken in
     let f : writeBuffer (c .before .before .before .before .before .args .r) ≡ true = sym (c .before .before .write-buffer .ensures) ∙ c .before .if2 .taken in
     rw (e, f, c .if3 .left)
 
--- src/lib.rt:225:9
 returns-3 : tie.Need-returns-3
 returns-3 c = let e : mmu (c .before .before .before .before .args .r) ≡ true = sym (c .before .before .before .mmu .ensures) ∙ c .before .before .if1 .taken in
     let f : writeBuffer (c .before .before .before .before .args .r) ≡ false = sym (c .before .write-buffer .ensures) ∙ c .if2 .left in
     rw (e, f)
 
--- src/lib.rt:215:1
 returns-4 : tie.Need-returns-4
 returns-4 c = let e : mmu (c .before .before .args .r) ≡ false = sym (c .before .mmu .ensures) ∙ c .if1 .left in rw e
 

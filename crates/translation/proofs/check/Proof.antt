@@ -8,35 +8,27 @@ use Rattle.translation.proofs.check.Lts as lts
 use Rattle.translation.proofs.check_by.Reads as check-by-reads
 use Rattle.translation.proofs.mapped_by.Reads as mapped-by-reads
 
--- src/lib.rt:216:9
 mapped-by-requires : tie.Need-mapped-by-requires
 mapped-by-requires c κs = search needs
 
--- src/lib.rt:219:22
 enum-told : tie.Need-enum-told
 enum-told c = search needs
 
--- src/lib.rt:225:20
 enum-known-m : tie.Need-enum-known-m
 enum-known-m c = search needs
 
--- src/lib.rt:225:26
 check-by-requires : tie.Need-check-by-requires
 check-by-requires c κs = (c .before .before .before .before .pre .0, rw (c .before .m .given .1) at (ranged-in (c .before .before .before .before .args .t) _ (c .before .before .before .mapped-by .ensures) (c .before .before .before .before .pre .1)))
 
--- src/lib.rt:226:24
 enum-known-m-2 : tie.Need-enum-known-m-2
 enum-known-m-2 c = search needs
 
--- src/lib.rt:205:1
 returns : tie.Need-returns
 returns c = let a = c .before .before .before .args in let k = checked-in (a .r) (a .privileged) (a .store) (a .va) (a .t) _ (c .before .before .mapped-by .ensures) in record { same = rw (c .enum-told .given .1) at k; ranged = record { domain = search needs; within = refl } }
 
--- src/lib.rt:205:1
 returns-2 : tie.Need-returns-2
 returns-2 c = let a = c .before .before .before .before .before .args in let k = checked-in (a .r) (a .privileged) (a .store) (a .va) (a .t) _ (c .before .before .before .before .mapped-by .ensures) in record { same = c .check-by .ensures .same ∙ (rw (c .before .before .m .given .1) at k); ranged = c .check-by .ensures .ranged }
 
--- src/lib.rt:205:1
 returns-3 : tie.Need-returns-3
 returns-3 c = let a = c .before .before .before .before .args in let k = checked-in (a .r) (a .privileged) (a .store) (a .va) (a .t) _ (c .before .before .before .mapped-by .ensures) in record { same = rw (c .before .m2 .given .1) at k; ranged = rw (c .before .m2 .given .1) at (ranged-in (a .t) _ (c .before .before .before .mapped-by .ensures) (c .before .before .before .before .pre .1)) }
 

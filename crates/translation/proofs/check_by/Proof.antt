@@ -12,23 +12,18 @@ use Rattle.rights.proofs.right.Reads as right-reads
 use Rattle.tlb.proofs.ap_of.Reads as ap-of-reads
 use Rattle.translation.proofs.judged.Reads as judged-reads
 
--- src/lib.rt:169:9
 domain-value-requires : tie.Need-domain-value-requires
 domain-value-requires c κs = search needs
 
--- src/lib.rt:170:9
 ap-of-requires : tie.Need-ap-of-requires
 ap-of-requires c κs = search needs
 
--- src/lib.rt:171:9
 right-requires : tie.Need-right-requires
 right-requires c κs = search needs
 
--- src/lib.rt:172:5
 judged-requires : tie.Need-judged-requires
 judged-requires c κs = search needs
 
--- src/lib.rt:158:1
 returns : tie.Need-returns
 unfolding spec.checkedBy
 returns c = let a = c .before .before .before .before .args in

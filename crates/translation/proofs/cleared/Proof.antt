@@ -10,15 +10,12 @@ use Rattle.translation.proofs.cleared.Reads as reads
 use Rattle.translation.proofs.cleared.Lts as lts
 use Rattle.translation.proofs.low_bits.Reads as low-bits-reads
 
--- src/lib.rt:97:27
 low-bits-requires : tie.Need-low-bits-requires
 low-bits-requires c κs = search needs
 
--- src/lib.rt:97:20
 sub-t4 : tie.Need-sub-t4
 sub-t4 c = let a = c .before .before .before .args in rw (c .before .low-bits .ensures) (low-le (a .a .width) (a .a .address .0))
 
--- src/lib.rt:93:1
 returns : tie.Need-returns
 unfolding aligned.cleared
 returns c = rw (c .before .low-bits .ensures)

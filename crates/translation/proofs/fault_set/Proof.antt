@@ -9,19 +9,15 @@ use Rattle.translation.proofs.fault_set.Reads as reads
 use Rattle.translation.proofs.fault_set.Lts as lts
 use Rattle.values.proofs.status_number.Reads as status-number-reads
 
--- src/lib.rt:263:14
 mul-t5 : tie.Need-mul-t5
 mul-t5 c = search needs
 
--- src/lib.rt:263:30
 status-number-requires : tie.Need-status-number-requires
 status-number-requires c κs = search needs
 
--- src/lib.rt:263:14
 add-t7 : tie.Need-add-t7
 add-t7 c = search needs
 
--- src/lib.rt:253:1
 returns : tie.Need-returns
 unfolding faults.faultSet
 returns c = rw (c .status-number .ensures .0)

@@ -9,19 +9,15 @@ use Rattle.translation.proofs.faults_alignment.Lts as lts
 use Rattle.translation.proofs.is_misaligned.Reads as is-misaligned-reads
 use Rattle.values.proofs.alignment.Reads as alignment-reads
 
--- src/lib.rt:96:8
 alignment-requires : tie.Need-alignment-requires
 alignment-requires c κs = search needs
 
--- src/lib.rt:97:9
 is-misaligned-requires : tie.Need-is-misaligned-requires
 is-misaligned-requires c κs = search needs
 
--- src/lib.rt:97:9
 returns : tie.Need-returns
 returns c = let e : alignment (c .before .before .before .args .r) ≡ true = sym (c .before .before .alignment .ensures) ∙ c .before .if1 .taken in rw e (c .is-misaligned .ensures)
 
--- src/lib.rt:93:1
 returns-2 : tie.Need-returns-2
 returns-2 c = let e : alignment (c .before .before .args .r) ≡ false = sym (c .before .alignment .ensures) ∙ c .if1 .left in rw e
 

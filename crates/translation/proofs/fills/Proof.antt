@@ -13,27 +13,22 @@ use Rattle.translation.proofs.fills.Lts as lts
 use Rattle.values.proofs.dcache.Reads as dcache-reads
 use Rattle.values.proofs.mmu.Reads as mmu-reads
 
--- src/lib.rt:205:8
 mmu-requires : tie.Need-mmu-requires
 mmu-requires c κs = search needs
 
--- src/lib.rt:206:12
 dcache-requires : tie.Need-dcache-requires
 dcache-requires c κs = search needs
 
--- src/lib.rt:207:13
 returns : tie.Need-returns
 returns c = let e : mmu (c .before .before .before .before .args .r) ≡ true = sym (c .before .before .before .mmu .ensures) ∙ c .before .before .if1 .taken in
     let f : dcache (c .before .before .before .before .args .r) ≡ true = sym (c .before .dcache .ensures) ∙ c .if2 .taken in
     rw (e, f)
 
--- src/lib.rt:209:9
 returns-2 : tie.Need-returns-2
 returns-2 c = let e : mmu (c .before .before .before .before .args .r) ≡ true = sym (c .before .before .before .mmu .ensures) ∙ c .before .before .if1 .taken in
     let f : dcache (c .before .before .before .before .args .r) ≡ false = sym (c .before .dcache .ensures) ∙ c .if2 .left in
     rw (e, f)
 
--- src/lib.rt:202:1
 returns-3 : tie.Need-returns-3
 returns-3 c = let e : mmu (c .before .before .args .r) ≡ false = sym (c .before .mmu .ensures) ∙ c .if1 .left in rw e
 

@@ -9,11 +9,9 @@ use Rattle.translation.proofs.is_misaligned.Reads as reads
 use Rattle.translation.proofs.is_misaligned.Lts as lts
 use Rattle.translation.proofs.low_bits.Reads as low-bits-reads
 
--- src/lib.rt:89:5
 low-bits-requires : tie.Need-low-bits-requires
 low-bits-requires c κs = search needs
 
--- src/lib.rt:85:1
 returns : tie.Need-returns
 returns c = rw (c .low-bits .ensures)
 

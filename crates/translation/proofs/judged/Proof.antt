@@ -14,11 +14,9 @@ use Rattle.translation.proofs.judged.Reads as reads
 use Rattle.translation.proofs.judged.Lts as lts
 use Rattle.translation.proofs.place_of.Reads as place-of-reads
 
--- src/lib.rt:143:32
 place-of-requires : tie.Need-place-of-requires
 place-of-requires c κs = search needs
 
--- src/lib.rt:143:9
 returns : tie.Need-returns
 returns c = let a = c .before .before .args in
     record {
@@ -26,19 +24,15 @@ returns c = let a = c .before .before .args in
       ranged = rw (c .place-of .ensures) (record { domain = c .before .before .pre .domain; within = translated-within (a .e) (a .va) (c .before .before .pre) });
     }
 
--- src/lib.rt:147:13
 returns-2 : tie.Need-returns-2
 returns-2 c = record { same = rw (c .before .before .if2 .taken, ne-eqb _ _ (c .if3 .taken)); ranged = search needs }
 
--- src/lib.rt:149:9
 returns-3 : tie.Need-returns-3
 returns-3 c = record { same = rw (c .before .before .if2 .taken, c .if3 .left); ranged = search needs }
 
--- src/lib.rt:152:9
 returns-4 : tie.Need-returns-4
 returns-4 c = record { same = rw (ne-eqb _ _ (c .before .before .before .if1 .left), ne-eqb _ _ (c .before .before .if2 .left), ne-eqb _ _ (c .if4 .taken)); ranged = search needs }
 
--- src/lib.rt:138:1
 returns-5 : tie.Need-returns-5
 returns-5 c = record { same = rw (ne-eqb _ _ (c .before .before .before .if1 .left), ne-eqb _ _ (c .before .before .if2 .left), c .if4 .left); ranged = search needs }
 

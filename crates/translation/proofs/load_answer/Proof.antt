@@ -13,15 +13,12 @@ use Rattle.translation.proofs.load_answer.Reads as reads
 use Rattle.translation.proofs.load_answer.Lts as lts
 use Rattle.words.proofs.signed.Reads as signed-reads
 
--- src/lib.rt:274:24
 signed-requires : tie.Need-signed-requires
 signed-requires c κs = search needs
 
--- src/lib.rt:269:1
 returns : tie.Need-returns
 returns c = rw (c .before .if1 .taken) (ap Signed (toZ-ofZ (search needs) ∙ c .signed .ensures))
 
--- src/lib.rt:269:1
 returns-2 : tie.Need-returns-2
 returns-2 c = rw (c .if1 .left)
 

@@ -12,15 +12,12 @@ use Rattle.translation.proofs.load_refusal.Reads as reads
 use Rattle.translation.proofs.load_refusal.Lts as lts
 use Rattle.words.proofs.is_width.Reads as is-width-reads
 
--- src/lib.rt:53:8
 is-width-requires : tie.Need-is-width-requires
 is-width-requires c κs = search needs
 
--- src/lib.rt:50:1
 returns : tie.Need-returns
 returns c = let e : isWidth (c .before .before .args .a .width) ≡ true = sym (c .before .is-width .ensures) ∙ c .if1 .taken in rw e
 
--- src/lib.rt:50:1
 returns-2 : tie.Need-returns-2
 returns-2 c = let e : isWidth (c .before .before .args .a .width) ≡ false = sym (c .before .is-width .ensures) ∙ c .if1 .left in rw e
 

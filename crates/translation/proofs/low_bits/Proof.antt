@@ -8,15 +8,12 @@ use Rattle.translation.proofs.low_bits.Tie as tie
 use Rattle.translation.proofs.low_bits.Reads as reads
 use Rattle.translation.proofs.low_bits.Lts as lts
 
--- src/lib.rt:76:9
 returns : tie.Need-returns
 returns c = rw (c .if1 .taken)
 
--- src/lib.rt:79:9
 returns-2 : tie.Need-returns-2
 returns-2 c = rw (c .if2 .taken)
 
--- src/lib.rt:72:1
 returns-3 : tie.Need-returns-3
 returns-3 c = rw (ne-eqb _ _ (c .before .if1 .left), ne-eqb _ _ (c .if2 .left))
 

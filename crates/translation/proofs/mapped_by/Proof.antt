@@ -4,35 +4,27 @@ use Rattle.translation.proofs.mapped_by.Tie as tie
 use Rattle.translation.proofs.mapped_by.Reads as reads
 use Rattle.translation.proofs.mapped_by.Lts as lts
 
--- src/lib.rt:197:30
 enum-told : tie.Need-enum-told
 enum-told c = search needs
 
--- src/lib.rt:198:27
 enum-known-t : tie.Need-enum-known-t
 enum-known-t c = search needs
 
--- src/lib.rt:199:29
 enum-known-t-2 : tie.Need-enum-known-t-2
 enum-known-t-2 c = search needs
 
--- src/lib.rt:200:29
 enum-known-t-3 : tie.Need-enum-known-t-3
 enum-known-t-3 c = search needs
 
--- src/lib.rt:193:1
 returns : tie.Need-returns
 returns c = search needs
 
--- src/lib.rt:193:1
 returns-2 : tie.Need-returns-2
 returns-2 c = rw (c .before .t .given .1)
 
--- src/lib.rt:193:1
 returns-3 : tie.Need-returns-3
 returns-3 c = rw (c .before .t2 .given .1)
 
--- src/lib.rt:193:1
 returns-4 : tie.Need-returns-4
 returns-4 c = rw (c .before .t3 .given .1)
 

@@ -8,19 +8,15 @@ use Rattle.translation.proofs.of_walk.Tie as tie
 use Rattle.translation.proofs.of_walk.Reads as reads
 use Rattle.translation.proofs.of_walk.Lts as lts
 
--- src/lib.rt:106:24
 enum-known-m : tie.Need-enum-known-m
 enum-known-m c = search needs
 
--- src/lib.rt:107:25
 enum-known-m-2 : tie.Need-enum-known-m-2
 enum-known-m-2 c = search needs
 
--- src/lib.rt:101:1
 returns : tie.Need-returns
 returns c = record { same = rw (c .before .m .given .1); ranged = rw (c .before .m .given .1) at (c .before .before .before .pre) }
 
--- src/lib.rt:101:1
 returns-2 : tie.Need-returns-2
 returns-2 c = record { same = rw (c .before .m2 .given .1); ranged = rw (c .before .m2 .given .1) at (c .before .before .before .pre) }
 

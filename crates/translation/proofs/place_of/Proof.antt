@@ -9,11 +9,9 @@ use Rattle.translation.proofs.place_of.Reads as reads
 use Rattle.translation.proofs.place_of.Lts as lts
 use Rattle.tlb.proofs.translated.Reads as translated-reads
 
--- src/lib.rt:129:18
 translated-requires : tie.Need-translated-requires
 translated-requires c κs = search needs
 
--- src/lib.rt:124:1
 returns : tie.Need-returns
 returns c = rw (c .before .translated .ensures)
 

@@ -13,29 +13,24 @@ use Rattle.translation.proofs.store_refusal.Lts as lts
 use Rattle.words.proofs.fits_width.Reads as fits-width-reads
 use Rattle.words.proofs.is_width.Reads as is-width-reads
 
--- src/lib.rt:60:8
 is-width-requires : tie.Need-is-width-requires
 is-width-requires c κs = search needs
 
--- src/lib.rt:61:12
 fits-width-requires : tie.Need-fits-width-requires
 fits-width-requires c κs = sym (c .before .is-width .ensures) ∙ c .if1 .taken
 
--- src/lib.rt:57:1
 returns : tie.Need-returns
 returns c = let a = c .before .before .before .before .args in
     let e : isWidth (a .a .width) ≡ true = sym (c .before .before .before .is-width .ensures) ∙ c .before .before .if1 .taken in
     let f : fitsWidth (a .a .width) (a .value) ≡ true = sym (c .before .fits-width .ensures) ∙ c .if2 .taken in
     rw (e, f)
 
--- src/lib.rt:57:1
 returns-2 : tie.Need-returns-2
 returns-2 c = let a = c .before .before .before .before .args in
     let e : isWidth (a .a .width) ≡ true = sym (c .before .before .before .is-width .ensures) ∙ c .before .before .if1 .taken in
     let f : fitsWidth (a .a .width) (a .value) ≡ false = sym (c .before .fits-width .ensures) ∙ c .if2 .left in
     rw (e, f)
 
--- src/lib.rt:57:1
 returns-3 : tie.Need-returns-3
 returns-3 c = let e : isWidth (c .before .before .args .a .width) ≡ false = sym (c .before .is-width .ensures) ∙ c .if1 .left in rw e
 

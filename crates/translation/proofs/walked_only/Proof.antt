@@ -15,25 +15,20 @@ use Rattle.translation.proofs.of_walk.Reads as of-walk-reads
 use Rattle.values.proofs.mmu.Reads as mmu-reads
 use Rattle.walk.proofs.walk.Reads as walk-reads
 
--- src/lib.rt:116:8
 mmu-requires : tie.Need-mmu-requires
 mmu-requires c κs = search needs
 
--- src/lib.rt:117:17
 walk-requires : tie.Need-walk-requires
 walk-requires c κs = search needs
 
--- src/lib.rt:117:9
 of-walk-requires : tie.Need-of-walk-requires
 of-walk-requires c κs = c .walk .ensures .ranged
 
--- src/lib.rt:112:1
 returns : tie.Need-returns
 returns c = let a = c .before .before .before .before .before .args in
     let e = walked-set (a .r) (now (a .memory)) (a .va) (sym (c .before .before .before .mmu .ensures) ∙ c .before .before .if1 .taken) in
     record { same = c .of-walk .ensures .same ∙ ap spec.ofWalk (c .before .walk .ensures .same) ∙ sym e; ranged = c .of-walk .ensures .ranged }
 
--- src/lib.rt:112:1
 returns-2 : tie.Need-returns-2
 returns-2 c = let a = c .before .before .before .args in
     record { same = sym (walked-clear (a .r) (now (a .memory)) (a .va) (sym (c .before .mmu .ensures) ∙ c .if1 .left)); ranged = search needs }

@@ -8,23 +8,18 @@ use Rattle.walk.proofs.descriptor_at.Reads as reads
 use Rattle.walk.proofs.descriptor_at.Lts as lts
 use Rattle.words.proofs.word.Reads as word-reads
 
--- src/lib.rt:27:13
 cast-i : tie.Need-cast-i
 cast-i c = search needs
 
--- src/lib.rt:28:8
 add-if1 : tie.Need-add-if1
 add-if1 c = search needs
 
--- src/lib.rt:29:26
 word-requires : tie.Need-word-requires
 word-requires c κs = search needs
 
--- src/lib.rt:24:1
 returns : tie.Need-returns
 returns c = ap Word (c .word .ensures .value) ∙ sym (descriptor-in _ (c .before .before .before .before .args .at) (c .before .if1 .taken))
 
--- src/lib.rt:24:1
 returns-2 : tie.Need-returns-2
 returns-2 c = sym (descriptor-out _ (c .before .before .before .args .at) (c .if1 .left))
 

@@ -8,32 +8,25 @@ use Rattle.walk.proofs.level_one.Reads as reads
 use Rattle.walk.proofs.level_one.Lts as lts
 use Rattle.walk.proofs.second_level.Reads as second-level-reads
 
--- src/lib.rt:86:9
 second-level-requires : tie.Need-second-level-requires
 second-level-requires c κs = search needs
 
--- src/lib.rt:86:9
 returns : tie.Need-returns
 returns c = rw (first-table _ (c .before .before .before .args .va) _ (c .before .if1 .taken)) (c .second-level .ensures)
 
--- src/lib.rt:92:20
 mul-t7 : tie.Need-mul-t7
 mul-t7 c = search needs
 
--- src/lib.rt:93:20
 mul-t9 : tie.Need-mul-t9
 mul-t9 c = search needs
 
--- src/lib.rt:95:18
 mul-t14 : tie.Need-mul-t14
 mul-t14 c = search needs
 
--- src/lib.rt:89:9
 returns-2 : tie.Need-returns-2
 returns-2 c = let a = c .before .before .before .before .args in
     record { same = sym (first-section _ (a .va) _ (c .before .if2 .taken)); ranged = section-ranged (a .w) (a .va) (search needs) (search needs) }
 
--- src/lib.rt:81:1
 returns-3 : tie.Need-returns-3
 returns-3 c = record { same = sym (first-none _ (c .before .before .before .args .va) _ (c .before .if1 .left) (c .if2 .left)); ranged = search needs }
 

@@ -7,33 +7,26 @@ use Rattle.walk.proofs.level_two.Tie as tie
 use Rattle.walk.proofs.level_two.Reads as reads
 use Rattle.walk.proofs.level_two.Lts as lts
 
--- src/lib.rt:44:20
 mul-t7 : tie.Need-mul-t7
 mul-t7 c = search needs
 
--- src/lib.rt:45:20
 mul-t9 : tie.Need-mul-t9
 mul-t9 c = search needs
 
--- src/lib.rt:41:9
 returns : tie.Need-returns
 returns c = let a = c .before .before .args in
     record { same = sym (second-large _ (a .va) _ (c .before .if1 .taken)); ranged = large-ranged (a .domain) (a .w) (a .va) (search needs) (search needs) (search needs) }
 
--- src/lib.rt:56:20
 mul-t20 : tie.Need-mul-t20
 mul-t20 c = search needs
 
--- src/lib.rt:57:20
 mul-t22 : tie.Need-mul-t22
 mul-t22 c = search needs
 
--- src/lib.rt:53:9
 returns-2 : tie.Need-returns-2
 returns-2 c = let a = c .before .before .before .args in
     record { same = sym (second-small _ (a .va) _ (c .before .if2 .taken)); ranged = small-ranged (a .domain) (a .w) (a .va) (search needs) (search needs) (search needs) }
 
--- src/lib.rt:36:1
 returns-3 : tie.Need-returns-3
 returns-3 c = record { same = sym (second-none _ (c .before .before .args .va) _ (c .before .if1 .left) (c .if2 .left)); ranged = search needs }
 

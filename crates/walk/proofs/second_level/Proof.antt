@@ -7,39 +7,30 @@ use Rattle.walk.proofs.second_level.Lts as lts
 use Rattle.walk.proofs.descriptor_of.Reads as descriptor-of-reads
 use Rattle.walk.proofs.level_two.Reads as level-two-reads
 
--- src/lib.rt:72:30
 mul-t9 : tie.Need-mul-t9
 mul-t9 c = search needs
 
--- src/lib.rt:72:48
 mul-t12 : tie.Need-mul-t12
 mul-t12 c = search needs
 
--- src/lib.rt:72:30
 add-t13 : tie.Need-add-t13
 add-t13 c = search needs
 
--- src/lib.rt:73:9
 descriptor-of-requires : tie.Need-descriptor-of-requires
 descriptor-of-requires c κs = search needs
 
--- src/lib.rt:75:26
 enum-known-d : tie.Need-enum-known-d
 enum-known-d c = search needs
 
--- src/lib.rt:75:32
 level-two-requires : tie.Need-level-two-requires
 level-two-requires c κs = search needs
 
--- src/lib.rt:76:48
 enum-told : tie.Need-enum-told
 enum-told c = search needs
 
--- src/lib.rt:68:1
 returns : tie.Need-returns
 returns c = rw (← c .before .before .before .before .descriptor-of .ensures, c .before .before .d .given .1) (c .level-two .ensures)
 
--- src/lib.rt:68:1
 returns-2 : tie.Need-returns-2
 unfolding second
 returns-2 c = record { same = rw (← c .before .before .descriptor-of .ensures, c .enum-told .given .1); ranged = search needs }

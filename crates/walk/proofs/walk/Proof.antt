@@ -9,35 +9,27 @@ use Rattle.walk.proofs.walk.Lts as lts
 use Rattle.walk.proofs.descriptor_of.Reads as descriptor-of-reads
 use Rattle.walk.proofs.level_one.Reads as level-one-reads
 
--- src/lib.rt:108:37
 mul-t8 : tie.Need-mul-t8
 mul-t8 c = search needs
 
--- src/lib.rt:108:30
 add-t9 : tie.Need-add-t9
 add-t9 c = search needs
 
--- src/lib.rt:109:9
 descriptor-of-requires : tie.Need-descriptor-of-requires
 descriptor-of-requires c κs = search needs
 
--- src/lib.rt:111:26
 enum-known-d : tie.Need-enum-known-d
 enum-known-d c = search needs
 
--- src/lib.rt:111:32
 level-one-requires : tie.Need-level-one-requires
 level-one-requires c κs = search needs
 
--- src/lib.rt:112:48
 enum-told : tie.Need-enum-told
 enum-told c = search needs
 
--- src/lib.rt:104:1
 returns : tie.Need-returns
 returns c = rw (walk-by _ _ (c .before .before .before .before .before .before .before .args .va) _ (sym (c .before .before .before .before .descriptor-of .ensures) ∙ c .before .before .d .given .1)) (c .level-one .ensures)
 
--- src/lib.rt:104:1
 returns-2 : tie.Need-returns-2
 unfolding first
 returns-2 c = record { same = sym (walk-by _ _ (c .before .before .before .before .before .args .va) _ (sym (c .before .before .descriptor-of .ensures) ∙ c .enum-told .given .1)); ranged = search needs }

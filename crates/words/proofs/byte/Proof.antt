@@ -6,15 +6,12 @@ use Rattle.words.proofs.byte.Tie as tie
 use Rattle.words.proofs.byte.Reads as reads
 use Rattle.words.proofs.byte.Lts as lts
 
--- src/lib.rt:41:5
 shared-slice-read-result : tie.Need-shared-slice-read-result
 shared-slice-read-result c = search needs
 
--- src/lib.rt:41:5
 cast-result : tie.Need-cast-result
 cast-result c = omega (arith, c .shared-slice-known .given (c .before .args .at))
 
--- src/lib.rt:37:1
 returns : tie.Need-returns
 returns c = (refl, omega (arith, c .shared-slice-known .given (c .before .args .at)))
 

@@ -8,15 +8,12 @@ use Rattle.words.proofs.fits_width.Tie as tie
 use Rattle.words.proofs.fits_width.Reads as reads
 use Rattle.words.proofs.fits_width.Lts as lts
 
--- src/lib.rt:28:9
 returns : tie.Need-returns
 returns c = rw (c .if1 .taken) (sym (lt-ltb (c .before .args .value) (256 ^ 4) (omega arith)))
 
--- src/lib.rt:31:9
 returns-2 : tie.Need-returns-2
 returns-2 c = rw (c .if2 .taken)
 
--- src/lib.rt:23:1
 returns-3 : tie.Need-returns-3
 returns-3 c = rw (is-one _ (c .before .before .pre) (c .before .if1 .left) (c .if2 .left))
 

@@ -9,27 +9,21 @@ use Rattle.words.proofs.half.Reads as reads
 use Rattle.words.proofs.half.Lts as lts
 use Rattle.words.proofs.byte.Reads as byte-reads
 
--- src/lib.rt:49:5
 byte-requires : tie.Need-byte-requires
 byte-requires c κs = search needs
 
--- src/lib.rt:49:35
 add-byte : tie.Need-add-byte
 add-byte c = search needs
 
--- src/lib.rt:49:23
 byte-requires-2 : tie.Need-byte-requires-2
 byte-requires-2 c κs = search needs
 
--- src/lib.rt:49:23
 mul-result : tie.Need-mul-result
 mul-result c = search needs
 
--- src/lib.rt:49:5
 add-result : tie.Need-add-result
 add-result c = search needs
 
--- src/lib.rt:45:1
 returns : tie.Need-returns
 returns c = let a = c .before .before .before .args in
     record { value = rw (two (now (a .bytes)) (a .at), c .byte2 .ensures .0, c .before .byte .ensures .0); fits = omega arith }

@@ -12,27 +12,21 @@ use Rattle.words.proofs.byte.Reads as byte-reads
 use Rattle.words.proofs.half.Reads as half-reads
 use Rattle.words.proofs.word.Reads as word-reads
 
--- src/lib.rt:69:9
 word-requires : tie.Need-word-requires
 word-requires c κs = search needs
 
--- src/lib.rt:69:9
 returns : tie.Need-returns
 returns c = rw (c .before .if1 .taken) (c .word .ensures)
 
--- src/lib.rt:72:9
 half-requires : tie.Need-half-requires
 half-requires c κs = search needs
 
--- src/lib.rt:72:9
 returns-2 : tie.Need-returns-2
 returns-2 c = rw (c .before .if2 .taken) (c .half .ensures)
 
--- src/lib.rt:74:5
 byte-requires : tie.Need-byte-requires
 byte-requires c κs = omega (arith, is-one _ (c .before .before .before .pre .0) (c .before .if1 .left) (c .if2 .left))
 
--- src/lib.rt:64:1
 returns-3 : tie.Need-returns-3
 returns-3 c = let a = c .before .before .before .before .args in
     rw (is-one _ (c .before .before .before .before .pre .0) (c .before .before .if1 .left) (c .before .if2 .left))

@@ -11,27 +11,21 @@ use Rattle.words.proofs.signed_byte.Reads as signed-byte-reads
 use Rattle.words.proofs.signed_half.Reads as signed-half-reads
 use Rattle.words.proofs.signed_word.Reads as signed-word-reads
 
--- src/lib.rt:117:9
 signed-word-requires : tie.Need-signed-word-requires
 signed-word-requires c κs = search needs
 
--- src/lib.rt:117:9
 returns : tie.Need-returns
 returns c = rw (c .before .if1 .taken) (toZ-ofZ (search needs) ∙ c .signed-word .ensures)
 
--- src/lib.rt:120:9
 signed-half-requires : tie.Need-signed-half-requires
 signed-half-requires c κs = omega (arith, rw (c .if2 .taken) at (c .before .before .pre .1))
 
--- src/lib.rt:120:9
 returns-2 : tie.Need-returns-2
 returns-2 c = rw (c .before .if2 .taken) (toZ-ofZ (search needs) ∙ c .signed-half .ensures)
 
--- src/lib.rt:122:5
 signed-byte-requires : tie.Need-signed-byte-requires
 signed-byte-requires c κs = omega (arith, rw (is-one _ (c .before .before .pre .0) (c .before .if1 .left) (c .if2 .left)) at (c .before .before .pre .1))
 
--- src/lib.rt:112:1
 returns-3 : tie.Need-returns-3
 returns-3 c = rw (is-one _ (c .before .before .before .pre .0) (c .before .before .if1 .left) (c .before .if2 .left)) (toZ-ofZ (search needs) ∙ c .signed-byte .ensures)
 

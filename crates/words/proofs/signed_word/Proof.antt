@@ -8,23 +8,18 @@ use Rattle.words.proofs.signed_word.Tie as tie
 use Rattle.words.proofs.signed_word.Reads as reads
 use Rattle.words.proofs.signed_word.Lts as lts
 
--- src/lib.rt:151:9
 cast-result : tie.Need-cast-result
 cast-result c = search needs
 
--- src/lib.rt:153:12
 sub-result : tie.Need-sub-result
 sub-result c = search needs
 
--- src/lib.rt:153:11
 cast-result-2 : tie.Need-cast-result-2
 cast-result-2 c = search needs
 
--- src/lib.rt:147:1
 returns : tie.Need-returns
 returns c = positive 2147483648 _ (lit≤ tt) (c .if1 .taken)
 
--- src/lib.rt:147:1
 returns-2 : tie.Need-returns-2
 returns-2 c = negative 2147483648 _ (lit≤ tt) (c .if1 .left) (omega arith)
 

@@ -11,43 +11,33 @@ use Rattle.words.proofs.store.Lts as lts
 use Rattle.words.proofs.put_half.Reads as put-half-reads
 use Rattle.words.proofs.put_word.Reads as put-word-reads
 
--- src/lib.rt:101:9
 put-word-requires : tie.Need-put-word-requires
 put-word-requires c κs = search needs
 
--- src/lib.rt:102:9
 same-length : tie.Need-same-length
 same-length c = search needs
 
--- src/lib.rt:102:9
 returns : tie.Need-returns
 returns c = rw (c .before .before .before .before .if1 .taken) (c .before .before .put-word .ensures)
 
--- src/lib.rt:105:9
 put-half-requires : tie.Need-put-half-requires
 put-half-requires c κs = search needs
 
--- src/lib.rt:106:9
 same-length-2 : tie.Need-same-length-2
 same-length-2 c = search needs
 
--- src/lib.rt:106:9
 returns-2 : tie.Need-returns-2
 returns-2 c = rw (c .before .before .before .before .if2 .taken) (c .before .before .put-half .ensures)
 
--- src/lib.rt:108:17
 cast-bytes : tie.Need-cast-bytes
 cast-bytes c = search needs
 
--- src/lib.rt:108:5
 slice-write-bytes : tie.Need-slice-write-bytes
 slice-write-bytes c = omega (arith, is-one _ (c .before .before .before .pre .0) (c .before .if1 .left) (c .if2 .left))
 
--- src/lib.rt:96:1
 same-length-3 : tie.Need-same-length-3
 same-length-3 c = search needs
 
--- src/lib.rt:96:1
 returns-3 : tie.Need-returns-3
 returns-3 c = let a = c .before .before .before .args in
     rw (is-one _ (c .before .before .before .pre .0) (c .before .if1 .left) (c .if2 .left)) (sym (store-one (now (a .bytes)) (a .at) (a .value)))

@@ -9,59 +9,45 @@ use Rattle.words.proofs.word.Reads as reads
 use Rattle.words.proofs.word.Lts as lts
 use Rattle.words.proofs.byte.Reads as byte-reads
 
--- src/lib.rt:57:5
 byte-requires : tie.Need-byte-requires
 byte-requires c κs = search needs
 
--- src/lib.rt:58:23
 add-byte : tie.Need-add-byte
 add-byte c = search needs
 
--- src/lib.rt:58:11
 byte-requires-2 : tie.Need-byte-requires-2
 byte-requires-2 c κs = search needs
 
--- src/lib.rt:58:11
 mul-result : tie.Need-mul-result
 mul-result c = search needs
 
--- src/lib.rt:57:5
 add-result : tie.Need-add-result
 add-result c = search needs
 
--- src/lib.rt:59:23
 add-byte-2 : tie.Need-add-byte-2
 add-byte-2 c = search needs
 
--- src/lib.rt:59:11
 byte-requires-3 : tie.Need-byte-requires-3
 byte-requires-3 c κs = search needs
 
--- src/lib.rt:59:11
 mul-result-2 : tie.Need-mul-result-2
 mul-result-2 c = search needs
 
--- src/lib.rt:57:5
 add-result-2 : tie.Need-add-result-2
 add-result-2 c = search needs
 
--- src/lib.rt:60:23
 add-byte-3 : tie.Need-add-byte-3
 add-byte-3 c = search needs
 
--- src/lib.rt:60:11
 byte-requires-4 : tie.Need-byte-requires-4
 byte-requires-4 c κs = search needs
 
--- src/lib.rt:60:11
 mul-result-3 : tie.Need-mul-result-3
 mul-result-3 c = search needs
 
--- src/lib.rt:57:5
 add-result-3 : tie.Need-add-result-3
 add-result-3 c = search needs
 
--- src/lib.rt:53:1
 returns : tie.Need-returns
 returns c = let a = c .before .before .before .before .before .args in
     record {
