@@ -248,6 +248,31 @@ static int note(uint64_t answer, const uint32_t *c) {
     }
 }
 
+static uint64_t looks[3];
+
+/* Looks at an address, by both functions: what is found lies inside, and nothing changes. */
+static void look(struct machine *m) {
+    struct machine before = machine_of(m);
+    uint32_t va = address();
+    uint64_t found = sa110_look_lent(state(m), cp15(m), m->memory.at, m->memory.length, m->store.at, m->store.length, va);
+    uint32_t which = sa110_which(found), offset = sa110_value(found);
+    if (found != sa110_look(*state(m), *cp15(m), m->memory.at, m->memory.length, m->store.at, m->store.length, va)) {
+        fail("a look by value differs");
+    }
+    if (which > SA110_OF_MEMORY || offset % SA110_LINE_BYTES != 0 || (which == SA110_NOWHERE && found != 0) ||
+        (which == SA110_OF_STORE && offset >= m->store.length) || (which == SA110_OF_MEMORY && offset >= m->memory.length)) {
+        fail("a look finds what is not there");
+    }
+    if (which != SA110_NOWHERE && !sound(m)) {
+        fail("a look into an unsound state finds something");
+    }
+    looks[which]++;
+    if (!same(m, &before)) {
+        fail("a look changes something");
+    }
+    drop(&before);
+}
+
 static void one_case(void) {
     struct machine m = some_machine(), r, before;
     struct block calls, answers;
@@ -261,6 +286,7 @@ static void one_case(void) {
         uint32_t *c = (uint32_t *)calls.at + i * SA110_FIELDS;
         uint32_t was_sound = sound(&m);
         numbers(c);
+        look(&m);
         before = machine_of(&m);
         struct machine other = machine_of(&m);
         struct sa110_answered by_value = sa110_call(*state(&other), *cp15(&other), other.memory.at, other.memory.length, other.store.at,
@@ -333,9 +359,11 @@ int main(int argc, char **argv) {
             missing += faults[i] == 0;
         }
     }
-    printf("\n");
+    printf("\nlooks nowhere, in the cache store, in memory: %llu %llu %llu\n", (unsigned long long)looks[0], (unsigned long long)looks[1],
+           (unsigned long long)looks[2]);
+    missing += looks[0] == 0 || looks[1] == 0 || looks[2] == 0;
     if (missing > 0 && cases >= 2000) {
-        fail("not every refusal and status was met");
+        fail("not every refusal, status and look was met");
     }
     printf("damaged: ok\n");
     return 0;

@@ -64,6 +64,22 @@ static void read_register(uint32_t n) { call(SA110_READ, 1, n, 0, 0); }
 static void write_register(uint32_t n, uint32_t value) { call(SA110_WRITE, 1, n, 0, value); }
 static void cache(uint32_t pair, uint32_t address) { call(SA110_WRITE, 1, SA110_CACHE, pair, address); }
 
+/* Looks at an address, and prints where its line lies and the word there. */
+static void look(uint32_t address) {
+    uint64_t found = sa110_look_lent(&state, &cp15, memory, sizeof memory, store, sizeof store, address);
+    const uint8_t *line = sa110_line(found, memory, store);
+    char text[64];
+    uint32_t word;
+    sprintf(text, "look at %08x", address);
+    printf("%-48s ", text);
+    if (line == NULL) {
+        printf("nowhere\n");
+        return;
+    }
+    memcpy(&word, line + address % SA110_LINE_BYTES, sizeof word);
+    printf("%s %05x, word %08x\n", sa110_which(found) == SA110_OF_STORE ? "cache store" : "memory", sa110_value(found), word);
+}
+
 static void set_up(void) {
     printf("\nThe page tables, by flat stores: level 1 at 4000, level 2 at 8000\n");
     read_register(SA110_ID);
@@ -110,6 +126,15 @@ static void accesses(void) {
     put(1, 0x210010, 0x100);
     call(SA110_READ, 0, SA110_CONTROL, 0, 0);
     write_register(SA110_CONTROL, SA110_M | SA110_C);
+}
+
+static void looks(void) {
+    printf("\nLooks, which are no calls: two lines in the cache, one in memory, no mapping, outside memory\n");
+    look(0x210010);
+    look(0x145678);
+    look(0x420000);
+    look(0x500000);
+    look(0x600000);
 }
 
 static void clean_and_drain(void) {
@@ -162,6 +187,7 @@ int main(int argc, char **argv) {
     printf("Start: refusal %u, memory %zu bytes, cache store %zu bytes\n", refusal, state.size, sizeof store);
     set_up();
     accesses();
+    looks();
     const struct sa110_counts *counts = &state.counts;
     printf("\nCounts: calls %u, TLB misses %u, Dcache hits %u, line fills %u, halves sent out %u\n", counts->calls, counts->misses, counts->hits,
            counts->fills, counts->halves);

@@ -44,6 +44,12 @@ class Session(sa110.Machine):
     def cache(self, operation, address=0):
         return self.write(sa110.CACHE, address, operation)
 
+    def print_look(self, address):
+        """Looks at an address, and prints where its line lies and the word there."""
+        place, offset, line = self.look(address)
+        words = place if line is None else f"{place} {offset:05x}, word {int.from_bytes(line[address % 32 :][:4], 'little'):08x}"
+        print(f"{f'look at {address:08x}':<48} {words}")
+
 
 def set_up(m):
     print("\nThe page tables, by flat stores: level 1 at 4000, level 2 at 8000")
@@ -91,6 +97,12 @@ def accesses(m):
     m.put(1, 0x210010, 0x100)
     m.read(sa110.CONTROL, user=True)
     m.write(sa110.CONTROL, M | C)
+
+
+def looks(m):
+    print("\nLooks, which are no calls: two lines in the cache, one in memory, no mapping, outside memory")
+    for address in (0x210010, 0x145678, 0x420000, 0x500000, 0x600000):
+        m.print_look(address)
 
 
 def clean_and_drain(m):
@@ -143,6 +155,7 @@ def main():
     print(f"Start: refusal {m.refusal}, memory {m.state.size} bytes, cache store {len(m.cache_store)} bytes")
     set_up(m)
     accesses(m)
+    looks(m)
     print_counts(m)
     plain(m)
     clean_and_drain(m)

@@ -69,6 +69,26 @@ impl Session {
         self.call(WRITE, 1, CACHE, pair, address);
     }
 
+    /// Looks at an address, and prints where its line lies and the word there.
+    fn look(&self, address: u32) {
+        let found = self.machine.look(&self.memory, &self.store, address);
+        let place = match found {
+            Look::OfStore(at) => format!("cache store {at:05x}"),
+            Look::OfMemory(at) => format!("memory {at:05x}"),
+            Look::Nowhere => "nowhere".to_string(),
+        };
+        let line = found.bytes(&self.memory, &self.store);
+        let first = address as usize % LINE_BYTES;
+        let word = match line.get(first..first + 4) {
+            Some(bytes) => format!(
+                ", word {:08x}",
+                u32::from_le_bytes(bytes.try_into().expect("four bytes"))
+            ),
+            None => String::new(),
+        };
+        println!("{:<48} {place}{word}", format!("look at {address:08x}"));
+    }
+
     fn set_up(&mut self) {
         println!("\nThe page tables, by flat stores: level 1 at 4000, level 2 at 8000");
         self.read_register(ID);
@@ -115,6 +135,15 @@ impl Session {
         self.put(1, 0x210010, 0x100);
         self.call(READ, 0, CONTROL, 0, 0);
         self.write_register(CONTROL, M | C);
+    }
+
+    fn looks(&self) {
+        println!("\nLooks, which are no calls: two lines in the cache, one in memory, no mapping, outside memory");
+        self.look(0x210010);
+        self.look(0x145678);
+        self.look(0x420000);
+        self.look(0x500000);
+        self.look(0x600000);
     }
 
     fn clean_and_drain(&mut self) {
@@ -214,6 +243,7 @@ fn main() {
     );
     session.set_up();
     session.accesses();
+    session.looks();
     session.print_counts();
     session.plain();
     session.clean_and_drain();

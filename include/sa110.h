@@ -3,9 +3,9 @@
  * The authority on every meaning is document 01 ("The SA-110 data side"). The functions are proved to meet its definitions; what this header says
  * in prose is a summary. The proofs speak of the language's abstract machine: they do not cover the compiler's back end, this header, or callers.
  *
- * Link with target/staticlib/liblent.a and target/staticlib/libhost.a (`rt staticlib lent`, `rt staticlib host`). The library needs memcpy and
- * memset, allocates nothing, keeps nothing between calls, prints nothing and never aborts: every error is an answer. Different states may be used
- * on different threads at the same time; a call takes up to 32 KB of stack (measured 28 KB, a run 20 KB).
+ * Link with liblent.a, liblook.a and libhost.a of target/staticlib (`rt staticlib lent` and so on write them). The library needs memcpy and memset,
+ * allocates nothing, keeps nothing between calls, prints nothing and never aborts: every error is an answer. Different states may be used on
+ * different threads at the same time; a call takes up to 32 KB of stack (measured 28 KB, a run 20 KB).
  *
  * A slice is a pointer and a length in elements. A pointer must be aligned for its type, must not be null even where the length is 0, and must
  * point to that many elements. What a call may change must not overlap anything else that is lent to that call. These are the only demands: any
@@ -281,6 +281,26 @@ uint64_t sa110_call_lent(struct sa110_state *state, struct sa110_cp15 *cp15, uin
 size_t sa110_run_lent(struct sa110_state *state, struct sa110_cp15 *cp15, uint8_t *memory, size_t memory_length, uint8_t *store,
                       size_t store_length, const uint32_t *calls, size_t calls_length, uint64_t *answers, size_t answers_length);
 
+/* Shows where the 32 bytes of a virtual address's line are to be read, without a call: in the cache store if the Dcache holds the line, else in
+ * memory, by a walk past the TLB or flat. The result is which * 2^32 + offset: sa110_which gives SA110_OF_STORE, SA110_OF_MEMORY or SA110_NOWHERE,
+ * sa110_value the offset of the line's first byte, and sa110_line its address or null. Nowhere means that a refusal 1 to 4 holds, the walk
+ * faults, or the line lies outside memory. Rights are not checked, bytes in the write buffer are not shown, and nothing changes. */
+uint64_t sa110_look_lent(const struct sa110_state *state, const struct sa110_cp15 *cp15, const uint8_t *memory, size_t memory_length,
+                         const uint8_t *store, size_t store_length, uint32_t va);
+
+enum {
+    SA110_NOWHERE = 0,
+    SA110_OF_STORE = 1,
+    SA110_OF_MEMORY = 2
+};
+
+static inline uint32_t sa110_which(uint64_t look) { return (uint32_t)(look >> 32); }
+static inline const uint8_t *sa110_line(uint64_t look, const uint8_t *memory, const uint8_t *store) {
+    return sa110_which(look) == SA110_OF_STORE    ? store + sa110_value(look)
+           : sa110_which(look) == SA110_OF_MEMORY ? memory + sa110_value(look)
+                                                  : NULL;
+}
+
 /* ---- The plain machine ---- */
 
 /* Makes a list of calls, in the form of sa110_run_lent, on the plain machine: memory and the five registers, all zero at the start, without TLB,
@@ -318,6 +338,10 @@ struct sa110_answered sa110_call(struct sa110_state state, struct sa110_cp15 cp1
 /* As sa110_run_lent: state and record go in by value and come back in the result. */
 struct sa110_ran sa110_run(struct sa110_state state, struct sa110_cp15 cp15, uint8_t *memory, size_t memory_length, uint8_t *store,
                            size_t store_length, const uint32_t *calls, size_t calls_length, uint64_t *answers, size_t answers_length);
+
+/* As sa110_look_lent, with state and record by value. */
+uint64_t sa110_look(struct sa110_state state, struct sa110_cp15 cp15, const uint8_t *memory, size_t memory_length, const uint8_t *store,
+                    size_t store_length, uint32_t va);
 
 #ifdef __cplusplus
 }

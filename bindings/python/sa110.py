@@ -14,7 +14,7 @@ ValueError is raised for numbers that do not fit into 32 bits, and an OSError wh
 import ctypes
 import os
 from ctypes import POINTER, byref, c_size_t, c_uint8, c_uint32, c_uint64
-from typing import NamedTuple
+from typing import NamedTuple, Optional
 
 STORE_BYTES = 16384
 FIELDS = 5
@@ -135,6 +135,14 @@ class Counts(NamedTuple):
     halves: int
 
 
+class Look(NamedTuple):
+    """What a look finds."""
+
+    place: str
+    offset: int
+    line: Optional[bytes]
+
+
 class Answer(int):
     """An answer as the library gives it, kind × 2^32 + value, with its parts by name."""
 
@@ -196,6 +204,7 @@ def load_library(path=None):
         "sa110_start_lent": (c_uint32, lent),
         "sa110_call_lent": (c_uint64, lent + [c_uint32] * 5),
         "sa110_run_lent": (c_size_t, lent + calls),
+        "sa110_look_lent": (c_uint64, lent + [c_uint32]),
         "sa110_plain_run": (PlainRan, memory + calls),
         "sa110_sound": (
             c_uint32,
@@ -286,6 +295,16 @@ class Machine:
         self.calls += calls[:made]
         self.answers += [Answer(x) for x in answers[:made]]
         return self.answers[len(self.answers) - made :]
+
+    def look(self, address):
+        """Where the line of a virtual address is to be read, which is no call: 'cache store', 'memory' or 'nowhere', the offset of the line's first
+        byte, and its 32 bytes or None."""
+        found = _lib().sa110_look_lent(*self._lent(), *_numbers(address))
+        place, offset = found >> 32, found & 0xFFFFFFFF
+        if place == 0:
+            return Look("nowhere", 0, None)
+        held = self.cache_store if place == 1 else self.memory
+        return Look(("cache store", "memory")[place - 1], offset, bytes(held[offset : offset + 32]))
 
     def plain(self):
         """Makes the calls made so far on the plain machine: its answers, what it leaves, its memory."""

@@ -3,6 +3,7 @@
 
 use crate::packed::{OfModel, Packed};
 use crate::{shrunk, NO_CALL};
+use sa110::{Look, LINE_BYTES};
 use sa110_model::answers::STATUSES;
 use sa110_model::calls::FIELDS;
 use sa110_model::coverage::{Coverage, Unwatched, Watch};
@@ -157,6 +158,24 @@ impl Sides {
         }
     }
 
+    /// A look on both sides; gives what it finds, or what differs. At an even address it goes through the
+    /// function over a lent state, else through the one by value.
+    pub fn look(&self, va: u32) -> Result<Look, String> {
+        let (p, m) = (&self.proved, &self.model);
+        let found = if va.is_multiple_of(2) {
+            p.packed.look(&p.memory, &p.store, va)
+        } else {
+            p.packed.look_by_value(&p.memory, &p.store, va)
+        };
+        let expected = place(m.look(va), &m.memory, &m.store);
+        if found != expected {
+            return Err(format!(
+                "look at {va:X}: proved {found:X?}, model {expected:X?}"
+            ));
+        }
+        Ok(found)
+    }
+
     /// Compares memory and store.
     pub fn bytes(&self) -> Result<(), String> {
         let (p, m) = (&self.proved, &self.model);
@@ -175,6 +194,25 @@ impl Sides {
     fn packed_model(&self) -> Packed {
         Packed::of(&self.model.state, &self.model.registers)
     }
+}
+
+/// Where the part lies that a look of the second model shows.
+fn place(part: &[u8], memory: &[u8], store: &[u8]) -> Look {
+    let within = |bytes: &[u8]| {
+        let at = (part.as_ptr() as usize).wrapping_sub(bytes.as_ptr() as usize);
+        (at < bytes.len()).then_some(at)
+    };
+    match (part.len(), within(store), within(memory)) {
+        (0, _, _) => Look::Nowhere,
+        (LINE_BYTES, Some(at), _) => Look::OfStore(at),
+        (LINE_BYTES, None, Some(at)) => Look::OfMemory(at),
+        _ => panic!("a part of {} bytes of neither", part.len()),
+    }
+}
+
+/// The address to look at after a call: the access's, or the one that a CP15 write may give.
+fn looked_at(numbers: &Numbers) -> u32 {
+    numbers[if numbers[0] < 3 { 3 } else { 4 }]
 }
 
 /// What differs between two states and records, the first place of each list.
@@ -216,9 +254,19 @@ pub struct Met {
     statuses: [u64; 16],
     refusals: [u64; 13],
     no_calls: u64,
+    /// Looks that found nothing, a line of the cache store, a line of memory.
+    looks: [u64; 3],
 }
 
 impl Met {
+    fn note_look(&mut self, found: Look) {
+        self.looks[match found {
+            Look::Nowhere => 0,
+            Look::OfStore(_) => 1,
+            Look::OfMemory(_) => 2,
+        }] += 1;
+    }
+
     fn note(&mut self, code: u64) {
         self.calls += 1;
         match code >> 32 {
@@ -234,7 +282,8 @@ impl Met {
         self.no_calls += other.no_calls;
         let statuses = self.statuses.iter_mut().zip(other.statuses);
         let refusals = self.refusals.iter_mut().zip(other.refusals);
-        for (sum, count) in statuses.chain(refusals) {
+        let looks = self.looks.iter_mut().zip(other.looks);
+        for (sum, count) in statuses.chain(refusals).chain(looks) {
             *sum += count;
         }
     }
@@ -247,6 +296,9 @@ impl Met {
         for status in STATUSES {
             let number = status as usize;
             rows.push((format!("fault status {number}"), self.statuses[number]));
+        }
+        for (place, count) in ["nowhere", "cache store", "memory"].iter().zip(self.looks) {
+            rows.push((format!("look, {place}"), count));
         }
         rows
     }
@@ -331,6 +383,9 @@ fn by_call<T: Watch>(
             sides.bytes().map_err(said)?;
         }
         met.note(code);
+        if i % 2 == 0 {
+            met.note_look(sides.look(looked_at(numbers)).map_err(said)?);
+        }
     }
     sides.bytes()?;
     Ok(sides.model)
@@ -358,6 +413,10 @@ fn by_runs(setting: &Setting, calls: &[Numbers], piece: usize, met: &mut Met) ->
             if let Err(what) = sides.bytes() {
                 return Some(said(what));
             }
+        }
+        match sides.look(looked_at(&part[part.len() - 1])) {
+            Ok(found) => met.note_look(found),
+            Err(what) => return Some(said(what)),
         }
         answers[..made].iter().for_each(|code| met.note(*code));
         if made < part.len() {

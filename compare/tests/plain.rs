@@ -16,7 +16,10 @@ fn difference(memory: &[u8], calls: &[Call]) -> Option<String> {
     for (i, call) in calls.iter().enumerate() {
         let expected = plain.call(call).as_number();
         if answers[i] != expected {
-            return Some(format!("call {i}: proved {:x}, model {expected:x}", answers[i]));
+            return Some(format!(
+                "call {i}: proved {:x}, model {expected:x}",
+                answers[i]
+            ));
         }
     }
     let r = &plain.registers;
@@ -40,7 +43,10 @@ fn compare(memory: &[u8], calls: &[Call], name: &str) {
     if difference(memory, calls).is_some() {
         let short = shrunk(calls, |calls| difference(memory, calls).is_some());
         let what = difference(memory, &short).unwrap();
-        panic!("{name}: {what}\nmemory {} bytes, calls:\n{short:#?}", memory.len());
+        panic!(
+            "{name}: {what}\nmemory {} bytes, calls:\n{short:#?}",
+            memory.len()
+        );
     }
 }
 
@@ -55,10 +61,18 @@ fn random_lists() {
         let length = 50 + rng.below(400) as usize;
         let run = free(&mut rng, length);
         calls += run.calls.len();
-        compare(&run.memory, &run.calls, &format!("free run {n} of seed {seed}"));
+        compare(
+            &run.memory,
+            &run.calls,
+            &format!("free run {n} of seed {seed}"),
+        );
         let run = guided(&mut rng, length, Rules::ALL).run;
         calls += run.calls.len();
-        compare(&run.memory, &run.calls, &format!("guided run {n} of seed {seed}"));
+        compare(
+            &run.memory,
+            &run.calls,
+            &format!("guided run {n} of seed {seed}"),
+        );
     }
     println!("calls compared {calls}");
 }

@@ -42,7 +42,11 @@ fn walks() {
                 rng.word()
             };
             let answer = walk(&world.memory, base, va);
-            assert_eq!(answer, expected(&world.memory, base, va), "seed {seed} world {n} base {base:x} va {va:x}");
+            assert_eq!(
+                answer,
+                expected(&world.memory, base, va),
+                "seed {seed} world {n} base {base:x} va {va:x}"
+            );
             if answer % 2 == 1 {
                 found += 1
             } else {

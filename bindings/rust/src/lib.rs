@@ -90,6 +90,35 @@ impl Answer {
     }
 }
 
+/// Where a look finds the 32 bytes of a virtual address's line, by the offset of the first.
+#[derive(Clone, Copy, Debug, PartialEq, Eq)]
+pub enum Look {
+    OfStore(usize),
+    OfMemory(usize),
+    /// Refusals 1 to 4, a walk fault, or a line outside memory.
+    Nowhere,
+}
+
+impl Look {
+    fn of(code: u64) -> Look {
+        let offset = code as u32 as usize;
+        match code >> 32 {
+            1 => Look::OfStore(offset),
+            2 => Look::OfMemory(offset),
+            _ => Look::Nowhere,
+        }
+    }
+
+    /// The 32 bytes, or none.
+    pub fn bytes<'a>(&self, memory: &'a [u8], store: &'a [u8]) -> &'a [u8] {
+        match *self {
+            Look::OfStore(at) => store.get(at..at + LINE_BYTES).unwrap_or(&[]),
+            Look::OfMemory(at) => memory.get(at..at + LINE_BYTES).unwrap_or(&[]),
+            Look::Nowhere => &[],
+        }
+    }
+}
+
 /// The small record: the plain five registers and the TLB pointer.
 #[repr(C)]
 #[derive(Clone, Copy, Debug, Default, PartialEq, Eq)]
@@ -214,6 +243,24 @@ extern "C" {
         answers: *mut u64,
         answers_length: usize,
     ) -> usize;
+    fn sa110_look_lent(
+        state: *const State,
+        cp15: *const Cp15,
+        memory: *const u8,
+        memory_length: usize,
+        store: *const u8,
+        store_length: usize,
+        va: u32,
+    ) -> u64;
+    fn sa110_look(
+        state: State,
+        cp15: Cp15,
+        memory: *const u8,
+        memory_length: usize,
+        store: *const u8,
+        store_length: usize,
+        va: u32,
+    ) -> u64;
     fn sa110_start(
         memory: *const u8,
         memory_length: usize,
@@ -362,6 +409,36 @@ impl Machine {
                 answers.len(),
             )
         }
+    }
+
+    /// Where the line of a virtual address is to be read; no call.
+    pub fn look(&self, memory: &[u8], store: &[u8], va: u32) -> Look {
+        Look::of(unsafe {
+            sa110_look_lent(
+                &self.state,
+                &self.cp15,
+                memory.as_ptr(),
+                memory.len(),
+                store.as_ptr(),
+                store.len(),
+                va,
+            )
+        })
+    }
+
+    /// `look` by the function that takes state and record by value.
+    pub fn look_by_value(&self, memory: &[u8], store: &[u8], va: u32) -> Look {
+        Look::of(unsafe {
+            sa110_look(
+                self.state.clone(),
+                self.cp15,
+                memory.as_ptr(),
+                memory.len(),
+                store.as_ptr(),
+                store.len(),
+                va,
+            )
+        })
     }
 
     /// `start` by the function that gives state and record by value.

@@ -1,6 +1,6 @@
 // A data access on the library's machine: alignment, translation by TLB or walk, rights, then Dcache, write buffer or memory.
 ghost use mathlib.Core.Path.{_≡_};
-ghost use mathlib.Core.Bool.{Bool, true, false};
+ghost use mathlib.Core.Bool.{Bool, true};
 ghost use mathlib.Core.List.{List};
 ghost use Prim.Native.Nat.{ℕ, _<_, _≤_, _+_, _*_, _/_, _%_};
 ghost use lib.ListN.{length, getD};
@@ -8,11 +8,10 @@ ghost use Rattle.words.specs.Words.{isWidth};
 ghost use Rattle.rights.specs.Rights.{rightsTable};
 ghost use Rattle.walk.specs.Ranges.{InRange};
 ghost use Rattle.tlb.specs.Packing.{entryOf, entriesOf};
-ghost use Rattle.cache.specs.Packing.{FillsLine};
 ghost use Rattle.buffer.specs.Ranges.{Fits};
 ghost use Rattle.translation.specs.Alignment as aligned;
 ghost use Rattle.translation.specs.Translation as mapped;
-ghost use Rattle.translation.specs.Ranges.{Is, Ranged, PlaceRanged, CheckedRanged};
+ghost use Rattle.translation.specs.Ranges.{Is, Ranged, PlaceRanged};
 ghost use Rattle.access.specs.Access as spec;
 ghost use Rattle.access.specs.Code.{Lists, machineOf, steppedOf, reachOf, accessed, accessedAt, TlbReady, SideReady, Reaches};
 use translation::Checked;

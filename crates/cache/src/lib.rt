@@ -1,11 +1,11 @@
 // The Dcache: 512 lines, each one word, in a lent slice; their bytes in the cache store.
 ghost use mathlib.Core.Path.{_≡_};
 ghost use mathlib.Core.Bool.{true};
-ghost use mathlib.Core.List.{List, [], _∷_, _++_};
+ghost use mathlib.Core.List.{List};
 ghost use Prim.Native.Nat.{ℕ, _+_, _*_, _%_, _<_, _≤_};
-ghost use lib.ListN.{length, getD, set, take, drop};
+ghost use lib.ListN.{length, set, take, drop};
 ghost use Rattle.values.specs.Empty.{emptyLine, noLines};
-ghost use Rattle.words.specs.Words.{isWidth, Loaded, stored};
+ghost use Rattle.words.specs.Words.{isWidth, Loaded};
 ghost use Rattle.buffer.specs.Buffer.{ready};
 ghost use Rattle.buffer.specs.Packing.{backingOf};
 ghost use Rattle.buffer.specs.Ranges.{Fits, Left};

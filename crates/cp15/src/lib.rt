@@ -1,16 +1,14 @@
 // CP15 calls on the library's machine: register reads and writes, and the operations of registers 7 and 8.
 ghost use mathlib.Core.Path.{_≡_};
-ghost use mathlib.Core.Bool.{Bool, true, false, _||_};
+ghost use mathlib.Core.Bool.{_||_};
 ghost use mathlib.Core.List.{List};
-ghost use Prim.Native.Nat.{ℕ, _<_, _≤_, _+_};
+ghost use Prim.Native.Nat.{ℕ, _<_, _+_};
 ghost use lib.ListN.{length};
-ghost use Rattle.tlb.specs.Packing.{entriesOf};
 ghost use Rattle.buffer.specs.Ranges.{Fits};
 ghost use Rattle.cache.specs.Packing.{linesOf};
 ghost use Rattle.cache.specs.Dcache as dcache;
 ghost use Rattle.registers.specs.Refusals as refused;
 ghost use Rattle.access.specs.Code.{Lists, machineOf, steppedOf, CleanReady};
-ghost use Rattle.access.specs.Access.{withCache, withEntries, withBacking, withRegisters};
 ghost use Rattle.cp15.specs.Operations as spec;
 use access::Outcome;
 use access::Small;

@@ -1,15 +1,17 @@
-// A first run: the plain machine on 64 KB of memory with page tables in it, and what each of a short list of calls answers.
+// A first run: a short list of calls on 64 KB of memory with page tables in it, what each answers, and the counts; then the same list on the plain
+// machine.
 
 ghost use mathlib.Core.Path.{_≡_};
 ghost use Prim.Native.Nat.{_<_};
 ghost use lib.ListN.{length};
+use values::Counts;
 
 // How many calls there are.
-const COUNT: usize = 16;
+const COUNT: usize = 17;
 
 // The calls, five numbers each: the call (0 load, 1 signed load, 2 store, 3 CP15 read, 4 CP15 write), privileged, the width or the register,
-// the address, the value.
-const CALLS: [u32; 80] = [
+// the address (for registers 7 and 8 the operation), the value.
+const CALLS: [u32; 85] = [
     3,
     1,
     1,
@@ -25,6 +27,11 @@ const CALLS: [u32; 80] = [
     3,
     0,
     5, // write register 3, domains
+    4,
+    1,
+    8,
+    6,
+    0, // write register 8: flush the TLB
     4,
     1,
     1,
@@ -53,8 +60,8 @@ const CALLS: [u32; 80] = [
     0,
     1,
     2,
-    1086592,
-    0, // load it at its other address
+    2098304,
+    0, // load it
     0,
     0,
     4,
@@ -209,12 +216,10 @@ fn set_up(memory: &mut [u8])
     words::store(memory, 32768, 4, 36958);
 }
 
-fn main() {
-    let mut memory = [0u8; 65536];
-    let calls = CALLS;
-    let mut answers = [0u64; 16];
-    set_up(&mut memory);
-    let ran = plain::run(&mut memory, &calls, &mut answers);
+// The calls with their answers, and where the plain machine answers something else.
+fn print_calls(calls: &[u32], answers: &[u64], others: &[u64])
+    requires { ⌜ (length (now calls) ≡ 85) × ((length (now answers) ≡ 17) × (length (now others) ≡ 17)) ⌝ }
+{
     let mut i: usize = 0;
     while i < COUNT {
         print_call(
@@ -225,12 +230,51 @@ fn main() {
             calls[i * 5 + 4],
         );
         print_answer(answers[i]);
+        if others[i] != answers[i] {
+            print(b"  the plain machine answers something else\n");
+        }
         i += 1;
     }
+}
+
+fn print_counts(c: Counts) {
+    print(b"library: calls counted ");
+    print_two(c.calls % 100);
+    print(b", TLB misses ");
+    print_two(c.misses % 100);
+    print(b", Dcache hits ");
+    print_two(c.hits % 100);
+    print(b", line fills ");
+    print_two(c.fills % 100);
+    print(b", halves sent out ");
+    print_two(c.halves % 100);
+    print(b"\n");
+}
+
+fn main() {
+    let mut memory = [0u8; 65536];
+    let mut store = [0u8; 16384];
+    let calls = CALLS;
+    let mut answers = [0u64; 17];
+    set_up(&mut memory);
+    let started = sa110::start(&memory, &store);
+    let ran = sa110::run(
+        started.state,
+        started.cp15,
+        &mut memory,
+        &mut store,
+        &calls,
+        &mut answers,
+    );
+    let mut other = [0u8; 65536];
+    let mut others = [0u64; 17];
+    set_up(&mut other);
+    let plain = plain::run(&mut other, &calls, &mut others);
+    print_calls(&calls, &answers, &others);
     let state = ran.state;
-    print(b"calls counted ");
-    print_two(state.calls % 100);
-    print(b" of ");
-    print_two((ran.made % 100) as u32);
+    print_counts(state.counts);
+    let left = plain.state;
+    print(b"plain machine: calls counted ");
+    print_two(left.calls % 100);
     print(b"\n");
 }

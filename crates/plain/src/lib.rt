@@ -1,8 +1,8 @@
 // The plain machine: no TLB, no Dcache, no write buffer.
 ghost use mathlib.Core.Path.{_≡_};
-ghost use mathlib.Core.Bool.{Bool, true};
+ghost use mathlib.Core.Bool.{true};
 ghost use mathlib.Core.List.{List};
-ghost use Prim.Native.Nat.{ℕ, _<_, _+_, _*_, _%_, _≤_, min};
+ghost use Prim.Native.Nat.{ℕ, _<_, _%_};
 ghost use lib.ListN.{length};
 ghost use Rattle.rights.specs.Rights.{rightsTable};
 ghost use Rattle.words.specs.Words.{isWidth, valueAt};
@@ -291,13 +291,6 @@ fn run_calls(
     }
 }
 
-// The smaller of two numbers.
-fn smaller(a: usize, b: usize) -> usize
-    ensures { λ r. ⌜ r ≡ min a b ⌝ }
-{
-    if a < b { a } else { b }
-}
-
 // A run of the plain machine from the start: as many calls, of five numbers each, as both lists hold. It stops at five numbers that are
 // no call. A memory whose length does not fit is refused, and nothing changes.
 pub fn run(memory: &mut [u8], calls: &[u32], answers: &mut [u64]) -> Ran
@@ -319,7 +312,7 @@ pub fn run(memory: &mut [u8], calls: &[u32], answers: &mut [u64]) -> Ran
             refusal: 1,
         };
     }
-    let n = smaller(calls.len() / 5, answers.len());
+    let n = trace::calls_held(calls, answers);
     let table = rights::table();
     run_calls(&table, memory, calls, answers, n)
 }

@@ -1,6 +1,6 @@
 // The registers of coprocessor 15, and the refusals that a call alone decides.
 ghost use mathlib.Core.Path.{_≡_};
-ghost use Prim.Native.Nat.{_<_, _%_};
+ghost use Prim.Native.Nat.{_<_};
 ghost use Rattle.values.specs.Control as control;
 ghost use Rattle.registers.specs.Refusals as refused;
 ghost use Rattle.registers.specs.Registers as spec;

@@ -1,6 +1,6 @@
 -- "A look, which is no call, shows the 32 bytes of a virtual address's line".
-use Prim.Native.Nat.{ℕ, _*_}
-use mathlib.Core.Bool.{Bool, true, false, cond, not}
+use Prim.Native.Nat.{ℕ, _+_, _*_, _≤_}
+use mathlib.Core.Bool.{cond}
 use mathlib.Core.List.{List, []}
 use lib.Dec.{eqb}
 use lib.ListN.{length, take, drop}
@@ -18,27 +18,45 @@ use Rattle.cache.specs.Dcache.{find}
 use Rattle.sound.specs.Machine.{Machine, memoryOf, storeOf}
 use Rattle.translation.specs.Faults.{inside}
 use Rattle.step.specs.Refusals.{stateRefusal}
+use Rattle.sa110.specs.declared.Part.{Part}
+use Rattle.sa110.specs.declared.Part.the-variants.{OfStore, OfMemory, Empty}
+
+-- a line of memory of n bytes; under a bounds fault "an empty part"
+abbrev pub memoryLine : ℕ → PhysicalAddress → Part
+memoryLine n pa = cond (inside n pa) (OfMemory (physicalLine pa)) Empty
+
+-- "otherwise out of memory by a walk past the TLB that changes nothing"; under a walk fault "an empty part"; "rights are not checked"
+abbrev pub walkedLine : ℕ → VirtualAddress → Mapping → Part
+walkedLine n va (Found e) = memoryLine n (translated e va)
+walkedLine n va (Failed s d) = Empty
+
+-- "out of the cache store if held there"
+abbrev pub foundLine : Machine → VirtualAddress → Search → Part
+foundLine m va (At i) = OfStore i
+foundLine m va Nothing =
+    cond (mmu (m .cp15 .registers)) (walkedLine (length (memoryOf m)) va (walk (memoryOf m) (m .cp15 .registers .base) va))
+    (memoryLine (length (memoryOf m)) (flat va))
+
+-- the part shown; "Under 1 to 4 (no number is returned) ... it shows an empty part"
+unfoldable pub shown : Machine → VirtualAddress → Part
+shown m va = cond (eqb (stateRefusal m 0) 0) (foundLine m va (find (m .side .cache .lines) va)) Empty
 
 -- the 32 bytes of a line of a list of bytes
 abbrev pub lineBytes : List ℕ → ℕ → List ℕ
 lineBytes bytes line = take 32 (drop (line * 32) bytes)
 
--- memory's bytes; under a bounds fault "an empty part"
-abbrev pub memoryLine : List ℕ → PhysicalAddress → List ℕ
-memoryLine memory pa = cond (inside (length memory) pa) (lineBytes memory (physicalLine pa)) []
+-- the bytes of a part; "buffered bytes not shown"
+abbrev pub partBytes : List ℕ → List ℕ → Part → List ℕ
+partBytes memory store (OfStore i) = lineBytes store i
+partBytes memory store (OfMemory i) = lineBytes memory i
+partBytes memory store Empty = []
 
--- "otherwise out of memory by a walk past the TLB that changes nothing"; under a walk fault "an empty part"; "rights are not checked"
-abbrev pub walkedLine : List ℕ → VirtualAddress → Mapping → List ℕ
-walkedLine memory va (Found e) = memoryLine memory (translated e va)
-walkedLine memory va (Failed s d) = []
+-- a look
+abbrev pub look : Machine → VirtualAddress → List ℕ
+look m va = partBytes (memoryOf m) (storeOf m) (shown m va)
 
--- "out of the cache store if held there"; "buffered bytes not shown"
-abbrev pub lookFound : Machine → VirtualAddress → Search → List ℕ
-lookFound m va (At i) = lineBytes (storeOf m) i
-lookFound m va Nothing =
-    cond (mmu (m .cp15 .registers)) (walkedLine (memoryOf m) va (walk (memoryOf m) (m .cp15 .registers .base) va))
-    (memoryLine (memoryOf m) (flat va))
-
--- "Under 1 to 4 (no number is returned) ... it shows an empty part"
-unfoldable pub look : Machine → VirtualAddress → List ℕ
-look m va = cond (eqb (stateRefusal m 0) 0) (lookFound m va (find (m .side .cache .lines) va)) []
+-- a part lies inside a memory and a cache store of these lengths
+abbrev pub Inside : ℕ → ℕ → Part → Type 0
+Inside memory store (OfStore i) = i * 32 + 32 ≤ store
+Inside memory store (OfMemory i) = i * 32 + 32 ≤ memory
+Inside memory store Empty = Unit {0}

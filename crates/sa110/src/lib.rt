@@ -1,18 +1,14 @@
 // The library's calls: what users call.
 ghost use mathlib.Core.Path.{_≡_};
-ghost use mathlib.Core.Bool.{true, false, cond};
+ghost use mathlib.Core.Bool.{cond};
 ghost use mathlib.Core.List.{List};
-ghost use Prim.Native.Nat.{ℕ, _<_, _≤_, _+_, _*_, _/_, _%_, min};
+ghost use Prim.Native.Nat.{ℕ, _≤_, _+_, _*_, _%_};
 ghost use lib.ListN.{length};
-ghost use Rattle.rights.specs.Rights.{rightsTable};
-ghost use Rattle.registers.specs.Refusals as refused;
-ghost use Rattle.access.specs.Code.{Lists, machineOf, steppedOf, TlbReady, SideReady};
 ghost use Rattle.values.specs.Addresses.{flat};
 ghost use Rattle.values.specs.Control.{mmu};
 ghost use Rattle.values.specs.Empty.{zeroCp15};
 ghost use Rattle.walk.specs.Walk.{walk};
 ghost use Rattle.walk.specs.Ranges.{Ranged};
-ghost use Rattle.sound.specs.Machine.{Machine};
 ghost use Rattle.sound.specs.Machine as machines;
 ghost use Rattle.sound.specs.Soundness.{sound};
 ghost use Rattle.step.specs.Refusals.{stateRefusal};
@@ -20,7 +16,6 @@ ghost use Rattle.step.specs.Call as spec;
 ghost use Rattle.step.specs.Batch as batch;
 ghost use Rattle.step.specs.Start as starts;
 ghost use Rattle.sa110.specs.Look as looks;
-ghost use Rattle.step.specs.Code.{Serves};
 ghost use Rattle.trace.specs.Fold.{callsIn, Holds};
 ghost use Rattle.sa110.specs.State.{bytesOf, machineIn, calledOf, ranOf, startedOf};
 use access::Small;
@@ -288,7 +283,7 @@ pub fn run(
         ⌜ ranOf (now (memory .exit)) (now (store .exit)) (now (answers .exit)) r
         ≡ batch.run (machineIn (now (memory .entry)) (now (store .entry)) state cp15) (now (calls .entry)) (now (answers .entry)) ⌝ }
 {
-    let n = step::calls_held(calls, answers);
+    let n = trace::calls_held(calls, answers);
     let refusal = state_refusal(state, cp15, memory, store);
     if refusal != 0 {
         return Ran {
@@ -383,46 +378,70 @@ pub fn start(memory: &[u8], store: &[u8]) -> Started
     }
 }
 
+// What a look shows: line i of the cache store, line i of memory, or an empty part.
+pub enum Part {
+    OfStore(usize),
+    OfMemory(usize),
+    Empty,
+}
+
+// The line of a physical address in a memory of n bytes, or an empty part outside.
+fn memory_line(n: usize, pa: PhysicalAddress) -> Part
+    ensures { λ r. ⌜ r ≡ looks.memoryLine n pa ⌝ }
+{
+    if (pa.0 as usize) < n {
+        return Part::OfMemory((pa.0 / 32) as usize);
+    }
+    Part::Empty
+}
+
+// The line that a mapping gives, or an empty part.
+fn mapped_line(n: usize, va: VirtualAddress, m: Mapping) -> Part
+    requires { ⌜ Ranged m ⌝ }
+    ensures { λ r. ⌜ r ≡ looks.walkedLine n va m ⌝ }
+{
+    match m {
+        Mapping::Found(e) => memory_line(n, tlb::translated(e, va)),
+        Mapping::Failed(s, d) => Part::Empty,
+    }
+}
+
+// The line of a virtual address in memory: by a walk past the TLB, or flat.
+fn uncached_line(memory: &[u8], r: Registers, va: VirtualAddress) -> Part
+    requires { ⌜ r .base % 16384 ≡ 0 ⌝ }
+    ensures { λ x.
+        ⌜ x ≡ cond (mmu r) (looks.walkedLine (length (now (memory .entry))) va (walk (now (memory .entry)) (r .base) va))
+        (looks.memoryLine (length (now (memory .entry))) (flat va)) ⌝ }
+{
+    if values::mmu(r) {
+        let m = walk::walk(memory, r.base, va);
+        return mapped_line(memory.len(), va, m);
+    }
+    memory_line(memory.len(), PhysicalAddress(va.0))
+}
+
+// The part that a look shows.
+pub fn shown(state: State, cp15: Cp15, memory: &[u8], store: &[u8], va: VirtualAddress) -> Part
+    ensures { λ r. ⌜ r ≡ looks.shown (machineIn (now (memory .entry)) (now (store .entry)) state cp15) va ⌝ }
+{
+    if state_refusal(state, cp15, memory, store) != 0 {
+        return Part::Empty;
+    }
+    let lines = state.lines;
+    let registers = cp15.registers;
+    let found = cache::find(&lines, va);
+    match found {
+        Search::At(i) => Part::OfStore(i),
+        Search::Nothing => uncached_line(memory, registers, va),
+    }
+}
+
 // The 32 bytes of line i of a list of bytes.
 fn line_part(bytes: &[u8], i: usize) -> &[u8]
     requires { ⌜ i * 32 + 32 ≤ length (now bytes) ⌝ }
     ensures { λ r. ⌜ now r ≡ looks.lineBytes (now (bytes .entry)) i ⌝ }
 {
     &bytes[i * 32..i * 32 + 32]
-}
-
-// The line of a physical address in memory, or an empty part outside.
-fn memory_part(memory: &[u8], pa: PhysicalAddress) -> &[u8]
-    requires { ⌜ length (now memory) % 32 ≡ 0 ⌝ }
-    ensures { λ r. ⌜ now r ≡ looks.memoryLine (now (memory .entry)) pa ⌝ }
-{
-    if (pa.0 as usize) < memory.len() {
-        return line_part(memory, (pa.0 / 32) as usize);
-    }
-    &memory[0..0]
-}
-
-// The line that a mapping gives, or an empty part.
-fn mapped_part(memory: &[u8], va: VirtualAddress, m: Mapping) -> &[u8]
-    requires { ⌜ (length (now memory) % 32 ≡ 0) × Ranged m ⌝ }
-    ensures { λ r. ⌜ now r ≡ looks.walkedLine (now (memory .entry)) va m ⌝ }
-{
-    match m {
-        Mapping::Found(e) => memory_part(memory, tlb::translated(e, va)),
-        Mapping::Failed(s, d) => &memory[0..0],
-    }
-}
-
-// The line of a virtual address in memory: by a walk past the TLB, or flat.
-fn uncached_part(memory: &[u8], r: Registers, va: VirtualAddress) -> &[u8]
-    requires { ⌜ (length (now memory) % 32 ≡ 0) × (r .base % 16384 ≡ 0) ⌝ }
-    ensures { λ x. ⌜ now x ≡ cond (mmu r) (looks.walkedLine (now (memory .entry)) va (walk (now (memory .entry)) (r .base) va)) (looks.memoryLine (now (memory .entry)) (flat va)) ⌝ }
-{
-    if values::mmu(r) {
-        let m = walk::walk(memory, r.base, va);
-        return mapped_part(memory, va, m);
-    }
-    memory_part(memory, PhysicalAddress(va.0))
 }
 
 // The 32 bytes of a virtual address's line: a part of the cache store, a part of memory, or an empty part.
@@ -435,14 +454,10 @@ pub fn look<'a>(
 ) -> &'a [u8]
     ensures { λ r. ⌜ now r ≡ looks.look (machineIn (now (memory .entry)) (now (store .entry)) state cp15) va ⌝ }
 {
-    if state_refusal(state, cp15, memory, store) != 0 {
-        return &store[0..0];
-    }
-    let lines = state.lines;
-    let registers = cp15.registers;
-    let found = cache::find(&lines, va);
-    match found {
-        Search::At(i) => line_part(store, i),
-        Search::Nothing => uncached_part(memory, registers, va),
+    let place = shown(state, cp15, memory, store, va);
+    match place {
+        Part::OfStore(i) => line_part(store, i),
+        Part::OfMemory(i) => line_part(memory, i),
+        Part::Empty => &store[0..0],
     }
 }

@@ -1,10 +1,10 @@
 // One call, and a list of calls, on lent lists that refusals 1 to 4 do not hold of.
 ghost use mathlib.Core.Path.{_≡_};
-ghost use Prim.Native.Nat.{ℕ, _<_, _+_, _/_, min};
+ghost use Prim.Native.Nat.{ℕ, _<_, _+_};
 ghost use lib.ListN.{length};
 ghost use Rattle.rights.specs.Rights.{rightsTable};
 ghost use Rattle.registers.specs.Refusals as refused;
-ghost use Rattle.access.specs.Code.{Lists, machineOf, steppedOf, TlbReady, SideReady};
+ghost use Rattle.access.specs.Code.{machineOf, steppedOf, TlbReady, SideReady};
 ghost use Rattle.sound.specs.Machine.{Machine};
 ghost use Rattle.step.specs.Refusals.{stateRefusal};
 ghost use Rattle.step.specs.Call as spec;
@@ -210,15 +210,6 @@ pub fn run_calls(
         i += 1;
     }
     Folded { small: s, made: i }
-}
-
-// How many calls of five numbers the lists of calls and answers hold.
-pub fn calls_held(calls: &[u32], answers: &[u64]) -> usize
-    ensures { λ r. ⌜ r ≡ min (length (now (calls .entry)) / 5) (length (now (answers .entry))) ⌝ }
-{
-    let a = calls.len() / 5;
-    let b = answers.len();
-    if a < b { a } else { b }
 }
 
 // The first n calls of a list, each refused by the number. It answers how many calls there were.

@@ -1,10 +1,9 @@
 // The TLB: 32 entries, each one word, in a lent slice.
 ghost use mathlib.Core.Path.{_≡_};
-ghost use mathlib.Core.Bool.{true};
 ghost use Prim.Native.Nat.{ℕ, _<_};
 ghost use lib.ListN.{length, getD};
 ghost use Rattle.tlb.specs.Tlb as spec;
-ghost use Rattle.tlb.specs.Tlb.{covers, placed, flushed, dropped, stepped};
+ghost use Rattle.tlb.specs.Tlb.{placed, flushed, dropped, stepped};
 ghost use Rattle.tlb.specs.Packing.{entryOf, wordOf, entriesOf};
 ghost use Rattle.tlb.specs.Keyed.{keyOf, keysOf};
 ghost use Rattle.walk.specs.Ranges.{InRange};

@@ -1,6 +1,6 @@
 // Calls and answers as numbers, for runs over lent lists.
 ghost use mathlib.Core.Path.{_≡_};
-ghost use Prim.Native.Nat.{_<_, _+_, _*_, _≤_};
+ghost use Prim.Native.Nat.{_+_, _*_, _/_, _≤_, min};
 ghost use lib.ListN.{length};
 ghost use Rattle.trace.specs.Calls as spec;
 ghost use Rattle.trace.specs.Codes as codes;
@@ -101,4 +101,13 @@ pub fn code(a: Answer) -> u64
         },
         Answer::Refused(n) => 8589934592 + (n as u64),
     }
+}
+
+// How many calls of five numbers the lists of calls and answers hold.
+pub fn calls_held(calls: &[u32], answers: &[u64]) -> usize
+    ensures { λ r. ⌜ r ≡ min (length (now (calls .entry)) / 5) (length (now (answers .entry))) ⌝ }
+{
+    let a = calls.len() / 5;
+    let b = answers.len();
+    if a < b { a } else { b }
 }

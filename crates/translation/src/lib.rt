@@ -4,7 +4,6 @@ ghost use Prim.Native.Nat.{_<_, _%_, _^_};
 ghost use mathlib.Core.Bool.{true};
 ghost use Rattle.walk.specs.Ranges as ranges;
 ghost use Rattle.words.specs.Words.{isWidth};
-ghost use lib.ListN.{length};
 ghost use Rattle.rights.specs.Rights.{rightsTable};
 ghost use Rattle.walk.specs.Ranges.{InRange};
 ghost use Rattle.words.specs.Signed as signs;

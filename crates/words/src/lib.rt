@@ -3,7 +3,7 @@ ghost use mathlib.Core.Path.{_≡_};
 ghost use mathlib.Core.Bool.{true};
 ghost use Prim.Native.Nat.{_<_, _+_, _≤_, _^_};
 ghost use lib.ListN.{length, getD};
-ghost use Rattle.words.specs.Words.{valueAt, stored, isWidth, fitsWidth, Loaded};
+ghost use Rattle.words.specs.Words.{stored, isWidth, fitsWidth, Loaded};
 ghost use Rattle.words.specs.Signed.{signedOf};
 
 // Whether a width is 1, 2 or 4 bytes.

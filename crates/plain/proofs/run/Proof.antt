@@ -9,7 +9,7 @@ use Rattle.plain.proofs.run.Tie as tie
 use Rattle.plain.proofs.run.Reads as reads
 use Rattle.plain.proofs.run.Lts as lts
 use Rattle.plain.proofs.run_calls.Reads as run-calls-reads
-use Rattle.plain.proofs.smaller.Reads as smaller-reads
+use Rattle.trace.proofs.calls_held.Reads as calls-held-reads
 use Rattle.plain.proofs.zero_state.Reads as zero-state-reads
 use Rattle.rights.proofs.table.Reads as table-reads
 
@@ -31,20 +31,20 @@ returns-2 c = let a = c .before .before .before .before .before .before .args in
     ap (λ (p : Plain). record { left = record { machine = p; answers = now (a .answers); made = 0 }; refusal = 1 }) (c .zero-state2 .ensures m)
     ∙ refused-long m (now (a .calls)) (now (a .answers)) (c .before .before .if1 .left) (c .before .if2 .taken)
 
-smaller-requires : tie.Need-smaller-requires
-smaller-requires c κs = search needs
+calls-held-requires : tie.Need-calls-held-requires
+calls-held-requires c κs = search needs
 
 table-requires : tie.Need-table-requires
 table-requires c κs = search needs
 
 run-calls-requires : tie.Need-run-calls-requires
-run-calls-requires c κs = let a = c .before .before .before .before .before .before .before .before .before .before .args in
-    let n = c .before .before .before .before .smaller .ensures in (
+run-calls-requires c κs = let a = c .before .before .before .before .before .before .before .before .before .before .before .args in
+    let n = c .before .before .before .before .calls-held .ensures in (
       c .before .before .before .table .ensures,
       record {
         held = held-by (now (a .calls)) (now (a .answers)) _ n;
-        whole = c .before .before .before .before .before .before .if1 .left;
-        short = c .before .before .before .before .before .if2 .left;
+        whole = c .before .before .before .before .before .before .before .if1 .left;
+        short = c .before .before .before .before .before .before .if2 .left;
       },
     )
 
@@ -55,9 +55,9 @@ same-length-2 : tie.Need-same-length-2
 same-length-2 c = search needs
 
 returns-3 : tie.Need-returns-3
-returns-3 c = let a = c .before .before .before .before .before .before .before .before .before .before .before .before .before .before .before .args in
+returns-3 c = let a = c .before .before .before .before .before .before .before .before .before .before .before .before .before .before .before .before .args in
     c .before .before .before .before .run-calls .ensures
-    ∙ sym (run-by (now (a .memory)) (now (a .calls)) (now (a .answers)) (c .before .before .before .before .before .before .before .before .before .smaller .result) (c .before .before .before .before .before .before .before .before .before .before .before .if1 .left) (c .before .before .before .before .before .before .before .before .before .before .if2 .left) (c .before .before .before .before .before .before .before .before .before .smaller .ensures))
+    ∙ sym (run-by (now (a .memory)) (now (a .calls)) (now (a .answers)) (c .before .before .before .before .before .before .before .before .before .calls-held .result) (c .before .before .before .before .before .before .before .before .before .before .before .before .if1 .left) (c .before .before .before .before .before .before .before .before .before .before .before .if2 .left) (c .before .before .before .before .before .before .before .before .before .calls-held .ensures))
 
 pub run-spec : {M : Type 1} → statement M
 run-spec =
@@ -67,7 +67,7 @@ run-spec =
     returns
     zero-state-requires-2
     returns-2
-    smaller-requires
+    calls-held-requires
     table-requires
     run-calls-requires
     same-length

@@ -7,7 +7,7 @@ use Rattle.sa110.proofs.run.Statement.{statement}
 use Rattle.sa110.proofs.run.Tie as tie
 use Rattle.sa110.proofs.run.Reads as reads
 use Rattle.sa110.proofs.run.Lts as lts
-use Rattle.step.proofs.calls_held.Reads as calls-held-reads
+use Rattle.trace.proofs.calls_held.Reads as calls-held-reads
 use Rattle.step.proofs.refuse_calls.Reads as refuse-calls-reads
 use Rattle.sa110.proofs.run_served.Reads as run-served-reads
 use Rattle.sa110.proofs.state_refusal.Reads as state-refusal-reads

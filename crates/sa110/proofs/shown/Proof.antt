@@ -1,0 +1,62 @@
+use Rattle.sa110.proofs.Looks.{shown-refused, shown-by, base-whole}
+use Rattle.sa110.specs.State.{machineIn}
+use Rattle.cache.specs.Packing.{lineOf}
+use mathlib.Core.Path.{_≡_, sym, _∙_}
+use lib.ListN.{length, length-map}
+use denote.Ref.{now}
+use borrow.Author.Needs.{needs}
+use Rattle.sa110.proofs.shown.Statement.{statement}
+use Rattle.sa110.proofs.shown.Tie as tie
+use Rattle.sa110.proofs.shown.Reads as reads
+use Rattle.sa110.proofs.shown.Lts as lts
+use Rattle.cache.proofs.find.Reads as find-reads
+use Rattle.sa110.proofs.state_refusal.Reads as state-refusal-reads
+use Rattle.sa110.proofs.uncached_line.Reads as uncached-line-reads
+
+state-refusal-requires : tie.Need-state-refusal-requires
+state-refusal-requires c κs = search needs
+
+returns : tie.Need-returns
+returns c = let a = c .before .before .before .before .args in shown-refused (machineIn (now (a .memory)) (now (a .store)) (a .state) (a .cp15)) (a .va) _ (c .before .state-refusal .ensures) (c .if1 .taken)
+
+slice-aggregate-find : tie.Need-slice-aggregate-find
+slice-aggregate-find c = search needs
+
+find-requires : tie.Need-find-requires
+find-requires c κs = search needs
+
+enum-known-found : tie.Need-enum-known-found
+enum-known-found c = search needs
+
+enum-told : tie.Need-enum-told
+enum-told c = search needs
+
+uncached-line-requires : tie.Need-uncached-line-requires
+uncached-line-requires c κs = let a = c .before .before .before .before .before .before .before .before .before .before .args in
+    let m = machineIn (now (a .memory)) (now (a .store)) (a .state) (a .cp15) in
+    let ls : length (a .state .lines) ≡ 512 = search (needs, c .before .before .before .before .before .before .before .before .before .before .good .0) in
+    base-whole m (a .va) _ (c .before .before .before .before .before .before .before .state-refusal .ensures) (c .before .before .before .before .before .before .if1 .left) (length-map (a .state .lines) lineOf ∙ ls)
+
+returns-2 : tie.Need-returns-2
+returns-2 c = let a = c .before .before .before .before .before .before .before .before .before .before .before .args in
+    let m = machineIn (now (a .memory)) (now (a .store)) (a .state) (a .cp15) in
+    sym (shown-by m (a .va) _ (c .before .before .before .before .before .before .before .before .state-refusal .ensures) (c .before .before .before .before .before .before .before .if1 .left) _ (sym (c .before .found .given .1) ∙ c .before .before .before .find .ensures))
+
+returns-3 : tie.Need-returns-3
+returns-3 c = let a = c .before .before .before .before .before .before .before .before .before .before .before .args in
+    let m = machineIn (now (a .memory)) (now (a .store)) (a .state) (a .cp15) in
+    c .uncached-line .ensures ∙ sym (shown-by m (a .va) _ (c .before .before .before .before .before .before .before .before .state-refusal .ensures) (c .before .before .before .before .before .before .before .if1 .left) _ (sym (c .before .enum-told .given .1) ∙ c .before .before .before .find .ensures))
+
+pub shown-spec : {M : Type 1} → statement M
+shown-spec =
+    tie.close
+    (tie.spec
+    state-refusal-requires
+    returns
+    slice-aggregate-find
+    find-requires
+    enum-known-found
+    enum-told
+    uncached-line-requires
+    returns-2
+    returns-3)
