@@ -5,7 +5,7 @@
  *
  * Link with liblent.a, liblook.a and libhost.a of target/staticlib (`rt staticlib lent` and so on write them). The library needs memcpy and memset,
  * allocates nothing, keeps nothing between calls, prints nothing and never aborts: every error is an answer. Different states may be used on
- * different threads at the same time; a call takes up to 32 KB of stack (measured 28 KB, a run 20 KB).
+ * different threads at the same time. A call takes up to 40 KB of stack.
  *
  * A slice is a pointer and a length in elements. A pointer must be aligned for its type, must not be null even where the length is 0, and must
  * point to that many elements. What a call may change must not overlap anything else that is lent to that call. These are the only demands: any
@@ -29,7 +29,7 @@ extern "C" {
 /* ---- Sizes ---- */
 
 #define SA110_MEMORY_MAX 16777216u /* the longest memory, in bytes; a length is a multiple of SA110_LINE_BYTES, and may be 0 */
-#define SA110_STORE_BYTES 16384u   /* the cache store's length */
+#define SA110_STORE_BYTES 16384u   /* the cache store's length; SA110_STORE is a kind of call */
 #define SA110_LINE_BYTES 32u       /* a Dcache line */
 #define SA110_BLOCK_BYTES 16u      /* a half of a line, and a write buffer entry */
 #define SA110_TLB_ENTRIES 32u
@@ -38,7 +38,7 @@ extern "C" {
 #define SA110_LINES 512u           /* line i of `lines` is way i % 32 of set i / 32; its bytes lie at 32 i of the cache store */
 #define SA110_BUFFER_ENTRIES 8u
 #define SA110_RIGHTS 256u          /* entries of the rights table */
-#define SA110_FIELDS 5u            /* numbers a call */
+#define SA110_FIELDS 5u            /* numbers per call */
 
 /* ---- Structs ---- */
 
@@ -76,11 +76,11 @@ struct sa110_state {
     size_t size;                       /* the memory's length at the start */
     struct sa110_counts counts;
     size_t used;                       /* the number of write buffer entries, oldest first */
-    uint64_t entries[32];              /* TLB: bit 0 valid, 1 C, 2 B, 3-7 size (0 section, 1 large, 2 small), 8-15 domain, 16-23 AP0 to AP3,
-                                          24-43 physical base / 4096, 44-63 virtual base / 4096 */
+    uint64_t entries[32];              /* TLB: bit 0 valid, 1 C, 2 B, 3-7 size (0 section, 1 large, 2 small), 8-15 domain, 16-23 AP0 (lowest) to
+                                          AP3, 24-43 physical base / 4096, 44-63 virtual base / 4096 */
     uint64_t lines[512];               /* Dcache: bit 0 valid, 1 low half dirty, 2 high half dirty, 3-31 physical line number, 32-63 tag */
     uint32_t pointers[16];             /* the line of each set that the next fill replaces, 0 to 31 */
-    uint64_t words[8];                 /* write buffer: bits 0-31 mask (16 bits used), 32-63 block number (physical address / 16) */
+    uint64_t words[8];                 /* write buffer: bits 0-31 mask (bit i for byte i, 16 used), 32-63 block number (physical address / 16) */
     struct sa110_slot_bytes slots[8];  /* write buffer: the bytes */
 };
 
@@ -146,7 +146,7 @@ SA110_STATIC_ASSERT(offsetof(struct sa110_plain_ran, refusal) == 24, "plain_ran.
 SA110_STATIC_ASSERT(offsetof(struct sa110_plain_ran, made) == 32, "plain_ran.made");
 
 /* Whether two states are the same. The four bytes between counts and used belong to no field and may hold anything, so memcmp of whole states
- * does not tell. */
+ * is no comparison. */
 static inline int sa110_same_state(const struct sa110_state *a, const struct sa110_state *b) {
     return a->size == b->size && memcmp(&a->counts, &b->counts, sizeof a->counts) == 0 && a->used == b->used &&
            memcmp((const char *)a + offsetof(struct sa110_state, entries), (const char *)b + offsetof(struct sa110_state, entries),
@@ -162,16 +162,18 @@ static inline int sa110_same_state(const struct sa110_state *a, const struct sa1
  *   store               width 1, 2, 4     virtual address                    the value
  *   CP15 read           register 0 to 6   ignored                            ignored
  *   CP15 write          register 1 to 8   SA110_PAIR(opcode 2, CRm),         the value; for line and entry
- *                                         heeded for registers 7 and 8       operations the virtual address */
+ *                                         used for registers 7 and 8         operations the virtual address
+ *
+ * Five numbers with a kind above 4 or privileged above 1 are no call; this is tested before every refusal. */
 enum {
     SA110_LOAD = 0,
     SA110_SIGNED_LOAD = 1,
     SA110_STORE = 2,
-    SA110_READ = 3,
-    SA110_WRITE = 4
+    SA110_READ = 3, /* of a CP15 register */
+    SA110_WRITE = 4 /* of a CP15 register */
 };
 
-#define SA110_PAIR(opcode2, crm) ((opcode2) * 16u + (crm))
+#define SA110_PAIR(opcode2, crm) ((opcode2) * 16u + (crm)) /* crm is below 16 */
 
 /* Registers. */
 enum {
@@ -189,10 +191,10 @@ enum {
 
 /* Control bits. Of M, C and W these combinations are valid: none; M; M and W; all three. */
 #define SA110_M 0x0001u            /* MMU */
-#define SA110_A 0x0002u            /* alignment is checked */
-#define SA110_C 0x0004u            /* Dcache */
+#define SA110_A 0x0002u            /* alignment is checked; with A clear the low bits of an unaligned address are cleared, but FAR gets it as given */
+#define SA110_C 0x0004u            /* Dcache fills; a line that it holds is hit even with C or M clear */
 #define SA110_W 0x0008u            /* write buffer */
-#define SA110_S 0x0100u
+#define SA110_S 0x0100u            /* S and R change what AP 0 allows: see sa110_right */
 #define SA110_R 0x0200u
 #define SA110_I 0x1000u            /* kept, without effect here */
 #define SA110_CONTROL_ONES 0x0070u /* bits 4 to 6 read as one */
@@ -242,15 +244,16 @@ enum {
     SA110_PERMISSION_PAGE = 15,
     SA110_FILL_SECTION = 4,         /* outside memory, on a line fill */
     SA110_FILL_PAGE = 6,
-    SA110_OTHER_SECTION = 8,        /* outside memory, otherwise */
+    SA110_OTHER_SECTION = 8,        /* outside memory, otherwise; but a store is dropped and served where M and W are set and the page's C or B is */
     SA110_OTHER_PAGE = 10
 };
 
-/* Refusals, in the order in which they are tested. A start meets 1 and 2; an access 1 to 7; a CP15 call 1 to 5 and 8 to 12. */
+/* Refusals, in the order in which they are tested. A start meets 1 and 2; an access 1 to 7; a CP15 call 1 to 5 and 8 to 12. Refusal 3 is tested
+ * with the memory lent to this call. */
 enum {
     SA110_REFUSED_MEMORY = 1,      /* the memory's length is not a multiple of 32 or exceeds 16,777,216 */
     SA110_REFUSED_STORE = 2,       /* the cache store is not 16,384 bytes */
-    SA110_REFUSED_STATE = 3,       /* the state is unsound: not one that calls leave (document 01 has the list) */
+    SA110_REFUSED_STATE = 3,       /* the state or the record is unsound: something of document 01's refusal 3 holds of it */
     SA110_REFUSED_LENGTH = 4,      /* the memory's length differs from the one at the start */
     SA110_REFUSED_COUNT = 5,       /* the count of calls stands at 4,294,967,295 */
     SA110_REFUSED_WIDTH = 6,       /* the width is not 1, 2 or 4 */
@@ -262,7 +265,9 @@ enum {
     SA110_REFUSED_CONTROL = 12     /* a control write gives a combination of M, C and W that is not valid */
 };
 
-/* ---- Functions over a lent state and record ---- */
+/* ---- Functions over a lent state and record ----
+ *
+ * These are the ones to use; those by value, below, copy the state in and out. */
 
 /* Starts: writes a fresh state (the memory's length, all else zero) and a record of zeros, and gives 0. Refused, it gives 1 or 2 and writes a state
  * and a record of zeros. What was in them before does not matter. Memory and cache store may hold any bytes, and stay as they are. */
@@ -275,8 +280,8 @@ uint32_t sa110_start_lent(struct sa110_state *state, struct sa110_cp15 *cp15, co
 uint64_t sa110_call_lent(struct sa110_state *state, struct sa110_cp15 *cp15, uint8_t *memory, size_t memory_length, uint8_t *store,
                          size_t store_length, uint32_t kind, uint32_t privileged, uint32_t n, uint32_t a, uint32_t v);
 
-/* Makes a list of calls, five numbers each, and gives how many it made: as many as both lists hold (calls_length / 5, answers_length), up to five
- * numbers that are no call, where it stops. The answer to call i stands in answers[i]; those behind the calls made are as they were. Everything
+/* Makes a list of calls, five numbers each, and gives how many it made: the smaller of calls_length / 5 and answers_length, but it stops at the
+ * first five numbers that are no call. The answer to call i stands in answers[i]; those behind the calls made are as they were. Everything
  * is as after sa110_call_lent for each call in turn: refused calls are made and answered, too. Lengths count elements, not bytes. */
 size_t sa110_run_lent(struct sa110_state *state, struct sa110_cp15 *cp15, uint8_t *memory, size_t memory_length, uint8_t *store,
                       size_t store_length, const uint32_t *calls, size_t calls_length, uint64_t *answers, size_t answers_length);
@@ -305,7 +310,7 @@ static inline const uint8_t *sa110_line(uint64_t look, const uint8_t *memory, co
 
 /* Makes a list of calls, in the form of sa110_run_lent, on the plain machine: memory and the five registers, all zero at the start, without TLB,
  * Dcache and write buffer. Stores are in memory at once; writes of registers 7 and 8 do nothing. For a list that keeps document 01's rules R1 to
- * R6 the answers are those of sa110_run_lent from a start, and after a clean of each line stored to and a drain so is memory, byte for byte: this
+ * R6 (compare's program counts tells whether a list does) the answers are those of sa110_run_lent from a start, and after a clean of each line stored to and a drain so is memory, byte for byte: this
  * is proved (term 3). A memory whose length does not fit gives refusal 1, with no call made. */
 struct sa110_plain_ran sa110_plain_run(uint8_t *memory, size_t memory_length, const uint32_t *calls, size_t calls_length, uint64_t *answers,
                                        size_t answers_length);
@@ -319,7 +324,7 @@ uint32_t sa110_sound(struct sa110_cp15 cp15, struct sa110_counts counts, const u
                      const struct sa110_slot_bytes *slots, size_t slots_length, size_t used, size_t n);
 
 /* Walks the page tables in a memory of any length for a virtual address, by the table base's bits 31 to 14. An odd result is the mapping found,
- * in the form of sa110_state.entries; an even one is twice the fault's domain * 16 + status. Rights are not checked, and nothing changes. */
+ * in the form of sa110_state.entries; an even one is 2 * (domain * 16 + status) of the fault. Rights are not checked, and nothing changes. */
 uint64_t sa110_walk(const uint8_t *memory, size_t memory_length, uint32_t base, uint32_t va);
 
 /* Gives an entry of the rights table: 0 allowed, 1 domain fault, 2 permission fault; 255 for an index above 255. The index is

@@ -1,14 +1,16 @@
 """The SA-110 data side for Python, over the shared object that tools/hosts makes of the static libraries.
 
-    import sa110
-    m = sa110.Machine(0x40000)                  # memory of 256 KB, all zeros; memory may also be a bytearray
+    import sa110                                # with bindings/python on PYTHONPATH
+    m = sa110.Machine(0x40000)                  # memory of 256 KB, all zeros; memory may also be a bytearray, which is lent
     m.put(4, 0x4004, 0xC0E)                     # a store of a word; privileged unless user=True
     m.write(sa110.BASE, 0x4000)                 # a CP15 write
     print(m.load(4, 0x4004), m.counts)          # an answer, and the five counts
     answers, plain, memory = m.plain()          # the calls made so far, on the plain machine
 
 include/sa110.h says what each function of the library does; document 01 is the authority on every meaning. What the library refuses is an answer. A
-ValueError is raised for numbers that do not fit into 32 bits, and an OSError where the shared object is missing.
+ValueError is raised for numbers that do not fit into 32 bits and for a memory and a cache store that overlap, a TypeError for arguments of another
+type (memory is a length, or a bytearray, whose bytes the calls change; anything else that has bytes is copied), and an OSError where the shared
+object is missing.
 """
 
 import ctypes
@@ -22,16 +24,17 @@ FIELDS = 5
 # Kinds of call.
 LOAD, SIGNED_LOAD, STORE, READ, WRITE = range(5)
 
-# Registers.
-ID, CONTROL, BASE, DOMAINS = range(4)
-FSR, FAR, CACHE, TLB = range(5, 9)
+# Registers; 4 reads 0 and ignores writes.
+ID, CONTROL, BASE, DOMAINS, RESERVED, FSR, FAR, CACHE, TLB = range(9)
+ID_VALUE = 0x4401A100
 
-# Control bits.
-M, A, C, W, S, R = 0x1, 0x2, 0x4, 0x8, 0x100, 0x200
+# Control bits, and those that read as one.
+M, A, C, W, S, R, I = 0x1, 0x2, 0x4, 0x8, 0x100, 0x200, 0x1000
+CONTROL_ONES = 0x70
 
 
 def pair(opcode2, crm):
-    """Opcode 2 and CRm of a write of register 7 or 8, as one number."""
+    """Opcode 2 and CRm, below 16, of a write of register 7 or 8, as one number."""
     return opcode2 * 16 + crm
 
 
@@ -251,9 +254,11 @@ class Machine:
     """A state and its record, with the memory and the cache store that are lent to it, the calls made and their answers."""
 
     def __init__(self, memory, store=None):
-        """Starts. The memory is a bytearray, or the length of one of zeros; `refusal` is 0, 1 or 2."""
+        """Starts. The memory is a bytearray, or the length of one of zeros; so is the cache store, 16,384 zeros if absent. `refusal` is 0, 1 or 2."""
         self.memory = memory if isinstance(memory, bytearray) else bytearray(memory)
-        self.cache_store = bytearray(STORE_BYTES) if store is None else store
+        self.cache_store = store if isinstance(store, bytearray) else bytearray(STORE_BYTES if store is None else store)
+        if self.memory is self.cache_store:
+            raise ValueError("sa110: memory and cache store are one bytearray")
         self.first_memory = bytes(self.memory)
         self.state, self.cp15 = State(), Cp15()
         self.calls, self.answers = [], []
@@ -263,11 +268,12 @@ class Machine:
         return byref(self.state), byref(self.cp15), *_bytes(self.memory), *_bytes(self.cache_store)
 
     def call(self, kind, privileged, n, a, v):
-        """Makes a call of five numbers and gives its answer."""
+        """Makes a call of five numbers and gives its answer; numbers that are no call are not kept in `calls`."""
         numbers = _numbers(kind, privileged, n, a, v)
         answer = Answer(_lib().sa110_call_lent(*self._lent(), *numbers))
-        self.calls.append(numbers)
-        self.answers.append(answer)
+        if answer.kind != "no call":
+            self.calls.append(numbers)
+            self.answers.append(answer)
         return answer
 
     def load(self, width, address, user=False):
@@ -335,6 +341,7 @@ def _value(x):
 
 def plain_run(memory, calls):
     """Makes a list of calls on the plain machine over a bytearray: the answers of the calls made, and what it leaves."""
+    calls = list(calls)
     answers = (c_uint64 * len(calls))()
     ran = _lib().sa110_plain_run(*_bytes(memory), *_list(calls), answers, len(calls))
     return [Answer(x) for x in answers[: ran.made]], ran

@@ -1,6 +1,9 @@
 //! The SA-110 data side for Rust: safe functions over the static library. include/sa110.h says what
 //! each function does; document 01 is the authority on every meaning. Every error is an answer, and
 //! nothing panics.
+//!
+//! `Machine::start`, `call`, `run` and `look` go through the functions over a lent state and record,
+//! those `_by_value` through the others; both answer the same.
 
 use std::mem::{offset_of, size_of};
 
@@ -14,7 +17,7 @@ pub const TLB_ENTRIES: usize = 32;
 pub const SETS: usize = 16;
 pub const LINES: usize = 512;
 pub const BUFFER_ENTRIES: usize = 8;
-/// Numbers a call.
+/// Numbers per call.
 pub const FIELDS: usize = 5;
 
 /// A call: kind, privileged (1 or 0), width or register, address or pair, value.
@@ -32,6 +35,8 @@ pub const ID: u32 = 0;
 pub const CONTROL: u32 = 1;
 pub const BASE: u32 = 2;
 pub const DOMAINS: u32 = 3;
+/// Reads 0 and ignores writes.
+pub const RESERVED: u32 = 4;
 pub const FSR: u32 = 5;
 pub const FAR: u32 = 6;
 pub const CACHE: u32 = 7;
@@ -44,10 +49,15 @@ pub const C: u32 = 0x4;
 pub const W: u32 = 0x8;
 pub const S: u32 = 0x100;
 pub const R: u32 = 0x200;
+pub const I: u32 = 0x1000;
+/// The control bits that read as one.
+pub const CONTROL_ONES: u32 = 0x70;
+/// What register 0 reads.
+pub const ID_VALUE: u32 = 0x4401_A100;
 
-/// Opcode 2 and CRm of a write of register 7 or 8.
+/// Opcode 2 and CRm, below 16, of a write of register 7 or 8.
 pub const fn pair(opcode2: u32, crm: u32) -> u32 {
-    opcode2 * 16 + crm
+    opcode2.wrapping_mul(16).wrapping_add(crm)
 }
 
 // Operations of register 7, and of register 8.
@@ -112,8 +122,8 @@ impl Look {
     /// The 32 bytes, or none.
     pub fn bytes<'a>(&self, memory: &'a [u8], store: &'a [u8]) -> &'a [u8] {
         match *self {
-            Look::OfStore(at) => store.get(at..at + LINE_BYTES).unwrap_or(&[]),
-            Look::OfMemory(at) => memory.get(at..at + LINE_BYTES).unwrap_or(&[]),
+            Look::OfStore(at) => store.get(at..at.saturating_add(LINE_BYTES)).unwrap_or(&[]),
+            Look::OfMemory(at) => memory.get(at..at.saturating_add(LINE_BYTES)).unwrap_or(&[]),
             Look::Nowhere => &[],
         }
     }
