@@ -1,9 +1,9 @@
 -- The cases of an access's definitions.
-use Prim.Native.Nat.{ℕ, _+_, _*_, _/_, _%_, _<_, _≤_}
+use Prim.Native.Nat.{ℕ, _+_, _%_, _<_, _≤_}
 use native.Mathlib.Omega.{arith}
-use mathlib.Core.Bool.{Bool, true, false, cond}
-use mathlib.Core.Path.{_≡_, refl, sym, _∙_, ap, subst}
-use mathlib.Core.List.{List, map}
+use mathlib.Core.Bool.{true, false}
+use mathlib.Core.Path.{_≡_, refl, _∙_}
+use mathlib.Core.List.{List}
 use lib.ListN.{length, length-map, getD}
 use lib.Dec.{eqb}
 use borrow.Author.Tests.{eqb-true, eqb-false}
@@ -17,7 +17,6 @@ use Rattle.values.specs.Empty.{emptyEntry}
 use Rattle.values.specs.declared.Registers.{Registers}
 use Rattle.values.specs.declared.Entry.{Entry}
 use Rattle.values.specs.declared.VirtualAddress.{VirtualAddress}
-use Rattle.values.specs.declared.Search.{Search}
 use Rattle.values.specs.declared.Search.the-variants.{At, Nothing}
 use Rattle.values.proofs.Searches.{matched}
 use Rattle.walk.specs.Walk.{walk}
@@ -25,7 +24,7 @@ use Rattle.tlb.specs.Tlb.{lookup, covers}
 use Rattle.tlb.specs.Packing.{entryOf, entriesOf}
 use Rattle.tlb.proofs.Packing.{entry-at}
 use Rattle.translation.specs.declared.Translation.{Translation}
-use Rattle.translation.specs.declared.Translation.the-variants.{Flat, Held, Walked, Failed}
+use Rattle.translation.specs.declared.Translation.the-variants.{Flat, Held}
 use Rattle.translation.specs.Translation.{translation, ofWalk}
 
 -- ---- translation

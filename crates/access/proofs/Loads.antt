@@ -1,13 +1,12 @@
 -- What the code of a load leaves is what the definition says, by the facts that its callees give.
-use Prim.Native.Nat.{ℕ, _+_, _*_, _/_, _%_, _<_, _≤_}
+use Prim.Native.Nat.{ℕ, _+_, _*_, _/_, _%_, _<_}
 use native.Mathlib.Omega.{arith}
 use native.Mathlib.Nat.{add-zero}
-use mathlib.Core.Bool.{Bool, true, false, cond}
-use mathlib.Core.Path.{_≡_, refl, sym, _∙_, ap, subst}
+use mathlib.Core.Bool.{Bool, true, false}
+use mathlib.Core.Path.{_≡_, ap}
 use mathlib.Core.List.{List}
 use lib.ListN.{length, getD}
-use lib.Dec.{ltb}
-use borrow.Author.Tests.{lt-ltb, le-ltb}
+use borrow.Author.Tests.{lt-ltb}
 use Rattle.values.specs.declared.Access.{Access}
 use Rattle.values.specs.declared.Registers.{Registers}
 use Rattle.values.specs.declared.Status.{Status}
@@ -19,17 +18,16 @@ use Rattle.words.specs.Signed.{loadAnswer}
 use Rattle.buffer.specs.Buffer.{Backing, ready}
 use Rattle.buffer.specs.Packing.{backingOf}
 use Rattle.buffer.specs.Ranges.{Left}
-use Rattle.cache.specs.Dcache.{Side, Sent, Dcache, find, hitLoad, filled, victim, dirtyHalves}
-use Rattle.cache.specs.Packing.{sideOf, lineOf, linesOf, SentIs, FillsLine}
+use Rattle.cache.specs.Dcache.{Side, Sent, find, hitLoad, filled, victim}
+use Rattle.cache.specs.Packing.{sideOf, linesOf, SentIs, FillsLine}
 use Rattle.cache.proofs.Lines.{line-at}
 use Rattle.cache.proofs.Finds.{found}
 use Rattle.translation.specs.Alignment.{cleared}
 use Rattle.translation.specs.Faults.{fills, inside, faultSet}
 use Rattle.translation.specs.declared.Place.{Place}
 use Rattle.sound.specs.Machine.{Machine, memoryOf}
-use Rattle.values.specs.declared.Search.{Search}
 use Rattle.values.specs.declared.Search.the-variants.{At, Nothing}
-use Rattle.translation.specs.declared.Checked.the-variants.{Passed, Denied}
+use Rattle.translation.specs.declared.Checked.the-variants.{Passed}
 use Rattle.access.specs.declared.Small.{Small}
 use Rattle.access.specs.Access.{Stepped, faulted, loadHit, loadFill, loadUncached, loadMiss, loadAt}
 use Rattle.access.specs.Code.{Lists, machineOf, steppedOf, SideReady}

@@ -2,16 +2,15 @@
 use Prim.Native.Nat.{ℕ, _+_}
 use native.Mathlib.Nat.{add-zero}
 use mathlib.Core.Bool.{Bool, true, false}
-use mathlib.Core.Path.{_≡_, refl, sym, _∙_, ap}
+use mathlib.Core.Path.{_≡_, refl, ap}
 use mathlib.Core.List.{List}
 use Rattle.values.specs.declared.Access.{Access}
-use Rattle.values.specs.declared.Entry.{Entry}
 use Rattle.values.specs.declared.Status.{Status}
 use Rattle.values.specs.declared.VirtualAddress.{VirtualAddress}
 use Rattle.tlb.specs.Packing.{entriesOf}
 use Rattle.translation.specs.Alignment.{cleared}
 use Rattle.translation.specs.Translation.{translation, entriesAfter, pointerAfter, missesOf, checked}
-use Rattle.translation.specs.Ranges.{CheckedRanged, CheckedIs}
+use Rattle.translation.specs.Ranges.{CheckedIs}
 use Rattle.translation.specs.declared.Translation.{Translation}
 use Rattle.translation.specs.declared.Checked.{Checked}
 use Rattle.translation.specs.declared.Checked.the-variants.{Denied}

@@ -1,11 +1,11 @@
 -- What the code of a store leaves is what the definition says, by the facts that its callees give.
-use Prim.Native.Nat.{ℕ, _+_, _*_, _/_, _%_, _<_, _≤_}
+use Prim.Native.Nat.{ℕ, _%_, _<_, _≤_}
 use native.Mathlib.Omega.{arith}
 use native.Mathlib.Nat.{add-zero}
-use mathlib.Core.Bool.{Bool, true, false, cond}
-use mathlib.Core.Path.{_≡_, refl, sym, _∙_, ap, subst}
+use mathlib.Core.Bool.{true, false}
+use mathlib.Core.Path.{_≡_, ap}
 use mathlib.Core.List.{List}
-use lib.ListN.{length, getD}
+use lib.ListN.{length}
 use borrow.Author.Tests.{lt-ltb, le-ltb}
 use Rattle.values.specs.declared.Access.{Access}
 use Rattle.values.specs.declared.VirtualAddress.{VirtualAddress}
@@ -21,7 +21,7 @@ use Rattle.translation.specs.Alignment.{cleared}
 use Rattle.translation.specs.Faults.{buffers, otherStatus}
 use Rattle.translation.specs.Ranges.{PlaceRanged}
 use Rattle.translation.specs.declared.Place.{Place}
-use Rattle.translation.specs.declared.Checked.the-variants.{Passed, Denied}
+use Rattle.translation.specs.declared.Checked.the-variants.{Passed}
 use Rattle.sound.specs.Machine.{Machine, memoryOf}
 use Rattle.access.specs.declared.Small.{Small}
 use Rattle.access.specs.declared.Outcome.{Outcome}

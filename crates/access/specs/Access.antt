@@ -1,12 +1,10 @@
 -- "An access, step by step", on the library's machine. The call has been counted.
-use Prim.Native.Nat.{ℕ, _+_, _*_}
-use mathlib.Core.Bool.{Bool, true, false, cond, _&&_}
+use Prim.Native.Nat.{ℕ, _+_}
+use mathlib.Core.Bool.{Bool, true, false, cond}
 use mathlib.Core.List.{List}
 use lib.ListN.{length}
 use Rattle.values.specs.declared.VirtualAddress.{VirtualAddress}
 use Rattle.values.specs.declared.Registers.{Registers}
-use Rattle.values.specs.declared.Cp15.{Cp15}
-use Rattle.values.specs.declared.Counts.{Counts}
 use Rattle.values.specs.declared.Access.{Access}
 use Rattle.values.specs.declared.Fault.{Fault}
 use Rattle.values.specs.declared.Entry.{Entry}
@@ -19,7 +17,7 @@ use Rattle.values.specs.declared.Answer.the-variants as answer
 use Rattle.words.specs.Words.{valueAt, stored}
 use Rattle.words.specs.Signed.{loadAnswer}
 use Rattle.buffer.specs.Buffer.{Backing, drained, buffered, ready}
-use Rattle.cache.specs.Dcache.{Dcache, Side, Sent, find, hitLoad, hitStore, victim, filled}
+use Rattle.cache.specs.Dcache.{Dcache, Side, find, hitLoad, hitStore, victim, filled}
 use Rattle.sound.specs.Machine.{Machine, memoryOf}
 use Rattle.translation.specs.declared.Translation.{Translation}
 use Rattle.translation.specs.declared.Place.{Place}

@@ -5,8 +5,6 @@ use mathlib.Core.Path.{_≡_}
 use mathlib.Core.List.{List}
 use lib.ListN.{length, getD}
 use Rattle.values.specs.declared.Access.{Access}
-use Rattle.values.specs.declared.Counts.{Counts}
-use Rattle.values.specs.declared.Cp15.{Cp15}
 use Rattle.walk.specs.Ranges.{InRange}
 use Rattle.tlb.specs.Packing.{entryOf, entriesOf}
 use Rattle.buffer.specs.Ranges.{Fits}

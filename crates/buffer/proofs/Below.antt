@@ -3,12 +3,12 @@ use Prim.Native.Nat.{ℕ, zero, suc, _+_, _-_, _*_, _/_, _%_, _^_, _<_, _≤_}
 use native.Mathlib.Omega.{arith}
 use native.Mathlib.Nat.{add-zero, zero-div}
 use native.Mathlib.Numerals.{add-one}
-use mathlib.Core.Bool.{Bool, true, false, cond, _&&_}
+use mathlib.Core.Bool.{Bool, false, cond}
 use mathlib.Core.Logic.{_≢_}
 use mathlib.Core.Path.{_≡_, refl, sym, _∙_, ap, subst}
 use mathlib.Core.List.{List, [], _∷_, _++_, append-nil}
 use lib.Dec.{eqb}
-use lib.ListN.{length, length-append, getD, set, take, drop, replicate, take-append-drop, replicate-append-replicate}
+use lib.ListN.{length, length-append, getD, take, drop, replicate, take-append-drop, replicate-append-replicate}
 use lib.Pow.{shr-shr}
 use lib.Seq.{getD-set-same, getD-set-other, set-split, drop-drop, drop-append-le, append-snoc}
 use borrow.Author.Tests.{eqb-true, eqb-false}

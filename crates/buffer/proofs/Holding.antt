@@ -1,11 +1,10 @@
 -- The steps of the test whether an entry masks a byte of what is read, and the masks of accesses.
-use Prim.Native.Nat.{ℕ, _+_, _-_, _*_, _/_, _%_, _^_, _<_, _≤_}
+use Prim.Native.Nat.{ℕ, _+_, _-_, _*_, _%_, _^_, _<_, _≤_}
 use native.Mathlib.Omega.{arith}
 use native.Mathlib.Nat.{mul-le-mul-left}
-use mathlib.Core.Bool.{Bool, true, false, not}
-use mathlib.Core.Path.{_≡_, refl, sym, _∙_, ap}
+use mathlib.Core.Bool.{true, false}
+use mathlib.Core.Path.{_≡_, sym, _∙_, ap}
 use mathlib.Core.List.{List}
-use lib.Dec.{eqb}
 use lib.ListN.{length, getD, take, drop, replicate}
 use lib.Pow.{pow-mono}
 use lib.Seq.{getD-take, length-take-le}
@@ -13,7 +12,7 @@ use Rattle.values.specs.Tests.{any}
 use Rattle.values.specs.Empty.{emptySlot}
 use Rattle.values.specs.declared.Slot.{Slot}
 use Rattle.values.proofs.Anys.{any-hit, any-on, any-end}
-use Rattle.buffer.specs.Buffer.{meets, holds, maskOf}
+use Rattle.buffer.specs.Buffer.{meets}
 use Rattle.buffer.specs.Packing.{slotOf, slotsOf}
 use Rattle.buffer.proofs.Slots.{slot-at, length-slots}
 

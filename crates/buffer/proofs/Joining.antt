@@ -1,9 +1,8 @@
 -- A store that joins an entry, or takes a new one.
-use Prim.Native.Nat.{ℕ, zero, suc, _+_, _-_, _*_, _/_, _%_, _^_, _<_, _≤_}
+use Prim.Native.Nat.{ℕ, zero, suc, _+_, _-_, _*_, _/_, _%_, _<_, _≤_}
 use native.Mathlib.Omega.{arith}
-use mathlib.Core.Bool.{Bool, true, false, cond}
-use mathlib.Core.Path.{_≡_, refl, sym, _∙_, ap, subst}
-use mathlib.Core.List.{List, [], _∷_}
+use mathlib.Core.Path.{_≡_, sym, _∙_, ap}
+use mathlib.Core.List.{List, []}
 use lib.Bits.{bitOr, or-shr, or-mod, or-zero-r}
 use lib.Dec.{eqb}
 use lib.ListN.{length, length-set, getD, set, replicate}
@@ -18,7 +17,7 @@ use Rattle.values.specs.declared.Search.the-variants.{At, Nothing}
 use Rattle.values.proofs.Cases.{case}
 use Rattle.words.specs.Words.{stored}
 use Rattle.buffer.specs.Buffer.{Backing, newestOf, maskOf, joined, newSlot, storedAt, buffered, pushed, halfPushed}
-use Rattle.buffer.specs.Packing.{slotOf, slotsOf, backingOf, wordOf}
+use Rattle.buffer.specs.Packing.{slotOf, slotsOf, backingOf}
 use Rattle.buffer.specs.Ranges.{Fits, Left, Stores}
 use Rattle.buffer.proofs.Slots.{slot-at, slots-set, word-block, word-mask, any-default}
 

@@ -1,11 +1,10 @@
 -- The steps of laying an entry's bytes into memory.
-use Prim.Native.Nat.{ℕ, zero, suc, _+_, _/_, _%_, _<_, _≤_}
+use Prim.Native.Nat.{ℕ, suc, _+_, _/_, _<_, _≤_}
 use native.Mathlib.Omega.{arith}
 use native.Mathlib.Numerals.{add-one}
-use mathlib.Core.Bool.{Bool, true, false, cond}
 use mathlib.Core.Path.{_≡_, refl, sym, _∙_, ap}
 use mathlib.Core.List.{List, [], _∷_}
-use lib.ListN.{length, length-set, getD, set, drop, drop-of-length-le}
+use lib.ListN.{length, length-set, getD, drop, drop-of-length-le}
 use lib.Seq.{drop-cons}
 use Rattle.values.specs.Tests.{bit}
 use Rattle.values.proofs.Cases.{case}

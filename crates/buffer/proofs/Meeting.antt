@@ -1,19 +1,16 @@
 -- Whether an entry masks a byte of what is read, by its block and a part of its mask.
 use Prim.Native.Nat.{ℕ, zero, suc, _+_, _*_, _/_, _%_, _^_, _<_, _≤_}
 use native.Mathlib.Omega.{arith}
-use native.Mathlib.Nat.{add-zero, add-suc, suc-add, zero-add}
+use native.Mathlib.Nat.{add-zero, suc-add, zero-add}
 use native.Mathlib.Numerals.{add-one}
-use mathlib.Core.Bool.{Bool, true, false, not, _&&_, _||_}
-use mathlib.Core.Path.{_≡_, refl, sym, _∙_, ap, subst}
-use mathlib.Core.List.{List}
+use mathlib.Core.Bool.{Bool, true, false, not, _||_}
+use mathlib.Core.Path.{_≡_, refl, sym, _∙_, ap}
 use lib.Dec.{eqb}
 use lib.Pow.{mod-pow-add, shr-shr}
 use borrow.Author.Tests.{eq-eqb, ne-eqb, eqb-true, eqb-false}
-use Rattle.values.specs.Tests.{bit}
 use Rattle.values.specs.declared.Slot.{Slot}
 use Rattle.values.proofs.Cases.{case}
 use Rattle.buffer.specs.Buffer.{masks, meets}
-use Rattle.buffer.specs.Packing.{slotOf}
 
 -- one bit more of a number
 bits-step : (x n : ℕ) → (eqb (x % 2) 1 || not (eqb (x / 2 % 2 ^ n) 0)) ≡ not (eqb (x % 2 ^ (n + 1)) 0)

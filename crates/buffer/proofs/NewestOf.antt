@@ -1,8 +1,7 @@
 -- The steps of the search for the newest entry of a block.
-use Prim.Native.Nat.{ℕ, zero, suc, _-_, _/_, _<_, _≤_}
+use Prim.Native.Nat.{ℕ, suc, _-_, _/_, _<_}
 use native.Mathlib.Omega.{arith}
-use mathlib.Core.Bool.{Bool, true, false, cond}
-use mathlib.Core.Path.{_≡_, refl, sym, _∙_, ap}
+use mathlib.Core.Path.{_≡_, sym, _∙_, ap}
 use mathlib.Core.List.{List}
 use lib.ListN.{length, getD}
 use borrow.Author.Tests.{eq-eqb, ne-eqb}

@@ -21,7 +21,7 @@ use Rattle.values.specs.declared.Search.the-variants.{At, Nothing}
 use Rattle.values.proofs.Cases.{case}
 use Rattle.words.specs.Words.{stored}
 use Rattle.words.proofs.Laws.{byte-before, byte-behind, byte-in}
-use Rattle.buffer.specs.Buffer.{masks, oldestLeft, leaving, behind, pushed, halfPushed, newestOf, maskOf, joined, newSlot, storedAt, buffered}
+use Rattle.buffer.specs.Buffer.{masks, oldestLeft, leaving, pushed, halfPushed, newestOf, maskOf, joined, newSlot, storedAt, buffered}
 use Rattle.buffer.proofs.Below.{over, below, over-append, empty-masks, half-bit, Behind, behind-below, Good, with-slots, leaving-below}
 use Rattle.buffer.proofs.Joining.{newest-below}
 

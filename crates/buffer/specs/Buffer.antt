@@ -1,7 +1,7 @@
 -- "Buffer: eight entries of sixteen bytes each, with a 16-bit mask and a block number (physical address divided by 16), oldest leaving
 -- first when full or drained; the others close up, and bytes outside the mask are zero."
 use Prim.Native.Nat.{ℕ, zero, suc, _+_, _*_, _-_, _/_, _%_, _^_}
-use mathlib.Core.Bool.{Bool, true, false, cond, _&&_, _||_}
+use mathlib.Core.Bool.{Bool, false, cond, _&&_, _||_}
 use mathlib.Core.List.{List, [], _∷_, _++_}
 use lib.Dec.{eqb, ltb}
 use lib.Bits.{bitOr}

@@ -3,7 +3,7 @@
 use Prim.Native.Nat.{ℕ, _+_, _*_, _/_, _%_}
 use mathlib.Core.List.{List, [], _∷_}
 use Rattle.values.specs.declared.Slot.{Slot}
-use Rattle.buffer.specs.Buffer.{Buffer, Backing}
+use Rattle.buffer.specs.Buffer.{Backing}
 
 abbrev pub slotOf : ℕ → List ℕ → Slot
 slotOf w bytes = record { block = w / 4294967296; mask = w % 4294967296; bytes = bytes }

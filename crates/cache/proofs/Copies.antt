@@ -1,11 +1,11 @@
 -- Bytes copied one by one.
-use Prim.Native.Nat.{ℕ, suc, _+_, _<_, _≤_}
+use Prim.Native.Nat.{ℕ, _+_, _<_, _≤_}
 use native.Mathlib.Omega.{arith}
 use native.Mathlib.Numerals.{add-one}
-use mathlib.Core.Path.{_≡_, refl, sym, _∙_, ap, subst}
-use mathlib.Core.List.{List, _++_}
+use mathlib.Core.Path.{_≡_, sym, _∙_, ap}
+use mathlib.Core.List.{List}
 use lib.ListN.{length, length-drop, getD, set, take, drop}
-use lib.Seq.{paste, paste-zero, paste-suc, length-paste, getD-take, getD-drop, length-take-le, take-all}
+use lib.Seq.{paste-zero, paste-suc, getD-take, getD-drop, length-take-le, take-all}
 use Rattle.values.proofs.Toward.{Toward, toward-step}
 use Rattle.cache.specs.Dcache.{copied}
 

@@ -1,19 +1,19 @@
 -- Lines and the words that stand for them; the steps of the search of a set.
 use Prim.Native.Nat.{ℕ, _+_, _*_, _/_, _%_, _<_, _≤_}
 use native.Mathlib.Omega.{arith}
-use mathlib.Core.Bool.{Bool, true, false, cond}
+use mathlib.Core.Bool.{true, false}
 use mathlib.Core.Path.{_≡_, refl, sym, _∙_, ap}
-use mathlib.Core.List.{List, map}
-use lib.Dec.{eqb, ltb}
+use mathlib.Core.List.{List}
+use lib.Dec.{eqb}
 use lib.ListN.{length, length-map, length-drop, getD, set, take, drop, replicate}
 use lib.Seq.{getD-take, getD-drop, length-take-le}
-use borrow.Author.Tests.{eq-eqb, ne-eqb, lt-ltb, le-ltb}
+use borrow.Author.Tests.{lt-ltb, le-ltb}
 use Rattle.values.specs.Tests.{firstFrom}
 use Rattle.values.specs.Empty.{emptyLine, noLines}
 use Rattle.values.specs.declared.Line.{Line}
 use Rattle.values.specs.declared.Search.the-variants.{At, Nothing}
 use Rattle.values.proofs.Searches.{search-hit, search-on, search-end}
-use Rattle.values.proofs.Maps.{map-at, map-set, words-step}
+use Rattle.values.proofs.Maps.{map-at, words-step}
 use Rattle.values.proofs.InPlace.{Upto, upto-end, map-constant}
 use Rattle.cache.specs.Dcache.{hasTag, marked, cleanLine, freshLine}
 use Rattle.cache.specs.Packing.{lineOf, linesOf}

@@ -1,21 +1,19 @@
 -- What a clean and a fill leave, by what their parts leave.
-use Prim.Native.Nat.{ℕ, _+_, _*_, _/_, _%_, _<_, _≤_}
-use native.Mathlib.Omega.{arith}
-use mathlib.Core.Bool.{true, false}
-use mathlib.Core.Path.{_≡_, refl, sym, _∙_, ap, subst}
+use Prim.Native.Nat.{ℕ, _+_, _*_}
+use mathlib.Core.Path.{_≡_, sym, _∙_, ap}
 use mathlib.Core.List.{List}
-use lib.ListN.{length, getD, set, take, drop}
+use lib.ListN.{getD, set}
 use Rattle.values.specs.Empty.{emptyLine}
 use Rattle.values.specs.Addresses.{setOf, tagOf, physicalLine}
 use Rattle.values.specs.declared.VirtualAddress.{VirtualAddress}
 use Rattle.values.specs.declared.PhysicalAddress.{PhysicalAddress}
 use Rattle.values.specs.declared.Line.{Line}
-use Rattle.values.specs.declared.Search.the-variants.{At, Nothing}
+use Rattle.values.specs.declared.Search.the-variants.{At}
 use Rattle.values.proofs.Maps.{map-set}
 use Rattle.buffer.specs.Buffer.{Backing, ready}
 use Rattle.buffer.specs.Packing.{backingOf}
-use Rattle.buffer.specs.Ranges.{Fits, Left}
-use Rattle.cache.specs.Dcache.{Dcache, Side, Sent, halvesSent, dirtyHalves, cleanLine, freshLine, cleanedAt, copied, turned, lineRead, filled}
+use Rattle.buffer.specs.Ranges.{Left}
+use Rattle.cache.specs.Dcache.{halvesSent, dirtyHalves, cleanLine, freshLine, cleanedAt, copied, turned, lineRead, filled}
 use Rattle.cache.specs.Packing.{lineOf, linesOf, sideOf, SentIs}
 use Rattle.cache.proofs.Lines.{line-at}
 

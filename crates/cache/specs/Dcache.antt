@@ -1,6 +1,6 @@
 -- "Dcache: 16 sets of 32 lines of 32 bytes, set VA[8:5], tag VA[31:9], a physical line number, a valid bit and two dirty bits, one a
 -- 16-byte half." Line i is way i mod 32 of set i / 32, and its bytes are those of the cache store from 32 i on.
-use Prim.Native.Nat.{ℕ, _+_, _*_, _/_, _%_}
+use Prim.Native.Nat.{ℕ, _+_, _*_, _%_}
 use mathlib.Core.Bool.{Bool, true, false, cond, _&&_}
 use mathlib.Core.List.{List, _++_}
 use lib.Dec.{eqb, ltb}

@@ -1,14 +1,12 @@
 -- The cases of a CP15 write's operation, and what the code of each leaves.
-use Prim.Native.Nat.{ℕ, _+_, _*_, _<_, _≤_}
-use native.Mathlib.Omega.{arith}
+use Prim.Native.Nat.{ℕ, _+_, _<_}
 use native.Mathlib.Nat.{add-zero}
-use mathlib.Core.Bool.{Bool, true, false, cond, _&&_, _||_}
-use mathlib.Core.Path.{_≡_, refl, sym, _∙_, ap, subst}
+use mathlib.Core.Bool.{true, false, _||_}
+use mathlib.Core.Path.{_≡_, ap}
 use mathlib.Core.List.{List}
-use lib.Dec.{eqb}
-use lib.ListN.{length, getD, set}
+use lib.ListN.{set}
 use borrow.Author.Tests.{ne-eqb}
-use Rattle.values.specs.Empty.{emptyLine, noLines}
+use Rattle.values.specs.Empty.{emptyLine}
 use Rattle.values.specs.declared.VirtualAddress.{VirtualAddress}
 use Rattle.values.specs.declared.Registers.{Registers}
 use Rattle.values.specs.declared.Transfer.{Transfer}
@@ -19,8 +17,8 @@ use Rattle.tlb.specs.Packing.{entriesOf}
 use Rattle.buffer.specs.Buffer.{Backing, drained}
 use Rattle.buffer.specs.Packing.{backingOf}
 use Rattle.buffer.specs.Ranges.{Left}
-use Rattle.cache.specs.Dcache.{Dcache, Side, Sent, find, lineFlushed, flushedAt, allFlushed, cleaned, cleanedAt, dirtyHalves}
-use Rattle.cache.specs.Packing.{lineOf, linesOf, sideOf, SentIs, HoldsLine}
+use Rattle.cache.specs.Dcache.{Dcache, Side, find, lineFlushed, flushedAt, allFlushed, cleaned, cleanedAt}
+use Rattle.cache.specs.Packing.{linesOf, sideOf, SentIs, HoldsLine}
 use Rattle.cache.proofs.Lines.{line-at}
 use Rattle.cache.proofs.Finds.{found}
 use Rattle.registers.specs.Refusals.{isPair}

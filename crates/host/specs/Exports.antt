@@ -11,7 +11,6 @@ use Rattle.walk.specs.Walk.{walk}
 use Rattle.walk.specs.declared.Mapping.{Mapping}
 use Rattle.walk.specs.declared.Mapping.the-variants.{Found, Failed}
 use Rattle.tlb.specs.Packing.{entriesOf, wordOf}
-use Rattle.plain.specs.Plain.{Plain}
 use Rattle.plain.specs.Run.{PlainLeft}
 use Rattle.cache.specs.Packing.{sideOf}
 use Rattle.sound.specs.Machine.{Machine}

@@ -1,10 +1,10 @@
 -- "Marked cases (hexadecimal)": M1 to M12, as calls with what they answer. "Memory 40000 bytes, table base 4000, domain register 5 unless
 -- stated": `runWith` begins with these registers; M1 to M3 and M11, whose answers do not depend on them, with those of a fresh start.
 use Prim.Native.Nat.{ℕ, _-_, _/_, _%_}
-use mathlib.Core.Bool.{Bool, true, false}
+use mathlib.Core.Bool.{true, false}
 use mathlib.Core.List.{List, [], _∷_, _++_}
 use mathlib.Core.Path.{_≡_}
-use lib.IntN.{ℤ, pos, negsuc}
+use lib.IntN.{pos, negsuc}
 use lib.ListN.{replicate}
 use Rattle.values.specs.Addresses.{setOf, tagOf}
 use Rattle.values.specs.declared.VirtualAddress.{VirtualAddress}

@@ -1,12 +1,11 @@
 -- The cases of the plain machine's step, and what each keeps.
-use Prim.Native.Nat.{ℕ, _+_, _*_, _/_, _%_, _<_, _≤_}
+use Prim.Native.Nat.{ℕ, _%_, _<_, _≤_}
 use native.Mathlib.Omega.{arith}
-use mathlib.Core.Bool.{Bool, true, false, cond}
-use mathlib.Core.Path.{_≡_, refl, sym, _∙_, ap, subst}
-use mathlib.Core.List.{List}
+use mathlib.Core.Bool.{Bool, true, false}
+use mathlib.Core.Path.{_≡_, sym, _∙_, ap, subst}
 use lib.Dec.{eqb}
 use lib.ListN.{length}
-use borrow.Author.Tests.{lt-ltb, le-ltb, eq-eqb, ne-eqb}
+use borrow.Author.Tests.{lt-ltb, le-ltb, ne-eqb}
 use Rattle.values.specs.Control.{kept}
 use Rattle.values.specs.declared.VirtualAddress.{VirtualAddress}
 use Rattle.values.specs.declared.Registers.{Registers}
@@ -19,10 +18,10 @@ use Rattle.values.proofs.Cases.{case}
 use Rattle.words.specs.Words.{valueAt, stored}
 use Rattle.words.specs.Signed.{loadAnswer}
 use Rattle.words.proofs.Laws.{length-stored}
-use Rattle.translation.specs.Faults.{inside, fills, buffers, fillStatus, otherStatus, faultSet}
+use Rattle.translation.specs.Faults.{fills, buffers, fillStatus, otherStatus, faultSet}
 use Rattle.translation.specs.declared.Place.{Place}
 use Rattle.translation.specs.declared.Checked.{Checked}
-use Rattle.translation.specs.declared.Checked.the-variants.{Passed, Denied}
+use Rattle.translation.specs.declared.Checked.the-variants.{Passed}
 use Rattle.registers.specs.Refusals.{callRefusal}
 use Rattle.registers.specs.Registers.{writtenOf}
 use Rattle.plain.specs.Plain.{Plain, PlainStepped, plainFaulted, plainReach, plainLoadAt, plainStoreAt, plainWritten, plainLoad, plainStore, plainWrite, plainDone, plainly, plainRefusal, counted}

@@ -1,10 +1,9 @@
 -- "The plain machine gets the start's memory and each call's arguments, no answers." It has no TLB, cache or buffer.
 use Prim.Native.Nat.{ℕ, _+_}
-use mathlib.Core.Bool.{Bool, true, false, cond, _&&_}
+use mathlib.Core.Bool.{Bool, true, false, cond}
 use mathlib.Core.List.{List}
 use lib.Dec.{eqb}
 use lib.ListN.{length}
-use Rattle.values.specs.Control.{mmu}
 use Rattle.values.specs.Empty.{zeroRegisters}
 use Rattle.values.specs.declared.VirtualAddress.{VirtualAddress}
 use Rattle.values.specs.declared.Registers.{Registers}

@@ -1,7 +1,7 @@
 -- The listed combinations of control bits, by cases.
-use Prim.Native.Nat.{ℕ, _/_, _%_}
-use mathlib.Core.Bool.{Bool, true, false, not}
-use mathlib.Core.Path.{_≡_, refl}
+use Prim.Native.Nat.{ℕ}
+use mathlib.Core.Bool.{true, false, not}
+use mathlib.Core.Path.{_≡_}
 use Rattle.values.specs.Tests.{bit}
 use Rattle.values.specs.Control.{listed}
 use Rattle.values.proofs.Cases.{case}

@@ -1,7 +1,7 @@
 -- Refusals that both machines share: 1, of the start, and 5 to 12, which the count of calls and the call alone decide. 0 is none.
 use Prim.Native.Nat.{ℕ, _%_}
-use mathlib.Core.Bool.{Bool, true, false, cond, not, _&&_, _||_}
-use lib.Dec.{eqb, ltb, leb}
+use mathlib.Core.Bool.{Bool, cond, not, _&&_, _||_}
+use lib.Dec.{eqb, leb}
 use Rattle.values.specs.Tests.{bit}
 use Rattle.values.specs.Control.{listed}
 use Rattle.values.specs.declared.Transfer.{Transfer}

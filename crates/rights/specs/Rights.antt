@@ -1,6 +1,6 @@
 -- "Rights come from a constant table of 256 entries ... 0 allowed, 1 domain fault, 2 permission fault."
 use Prim.Native.Nat.{ℕ, zero, suc, _+_, _*_, _/_, _%_, _^_}
-use mathlib.Core.Bool.{Bool, true, false, cond, not, _&&_, _||_}
+use mathlib.Core.Bool.{Bool, true, cond, not, _&&_, _||_}
 use mathlib.Core.List.{List, [], _∷_}
 use lib.Dec.{eqb}
 use Rattle.values.specs.Tests.{bit, number}

@@ -1,9 +1,9 @@
 -- The places of the write buffer, and their bytes by themselves.
-use Prim.Native.Nat.{ℕ, _+_, _<_, _≤_}
+use Prim.Native.Nat.{ℕ, _+_, _<_}
 use native.Mathlib.Omega.{arith}
-use mathlib.Core.Path.{_≡_, refl, sym, _∙_, ap, subst}
-use mathlib.Core.List.{List, [], map}
-use lib.ListN.{length, length-map, getD, set, take, replicate, List·getD-map}
+use mathlib.Core.Path.{_≡_, refl, sym, _∙_, subst}
+use mathlib.Core.List.{List, []}
+use lib.ListN.{length, length-map, getD, set, List·getD-map}
 use lib.Seq.{take-all}
 use Rattle.values.proofs.Toward.{Toward, toward-step}
 use Rattle.values.proofs.Maps.{map-set}

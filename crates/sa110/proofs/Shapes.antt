@@ -1,10 +1,9 @@
 -- The shape of a machine whose lists are arrays: their lengths, and that bytes are below 256.
 use Prim.Native.Nat.{ℕ, zero, suc, _%_, _<_, _≤_}
 use native.Mathlib.Omega.{arith}
-use native.Mathlib.Nat.{le-of-suc-le-suc, not-suc-le-zero}
-use mathlib.Core.Path.{_≡_, refl, sym, _∙_, ap, subst}
+use mathlib.Core.Path.{_≡_, refl, sym, _∙_, subst}
 use mathlib.Core.List.{List, [], _∷_}
-use lib.ListN.{length, length-map, getD, replicate, length-replicate, List·getD-eq-default}
+use lib.ListN.{length, length-map, getD, replicate}
 use mir.Syntax.{w8}
 use mir.Val.{Val}
 use denote.Array.{Array, each}
@@ -14,7 +13,6 @@ use denote.Laws.{Is}
 use borrow.Author.Needs.{elem-fits}
 use Rattle.values.specs.Empty.{emptySlot}
 use Rattle.values.specs.declared.Slot.{Slot}
-use Rattle.values.proofs.Cases.{case}
 use Rattle.words.specs.Words.{Bytes}
 use Rattle.tlb.specs.Packing.{entryOf}
 use Rattle.buffer.specs.Packing.{slotsOf}
@@ -26,7 +24,6 @@ use Rattle.soundness.proofs.Parts.{same-at}
 use Rattle.values.specs.declared.Cp15.{Cp15}
 use Rattle.values.specs.declared.Call.{Call}
 use Rattle.access.specs.declared.Outcome.{Outcome}
-use Rattle.access.specs.Access.{Stepped}
 use Rattle.step.specs.Refusals.{stateRefusal}
 use Rattle.step.specs.Call.{served}
 use Rattle.step.specs.Code.{Serves}

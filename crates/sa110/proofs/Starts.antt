@@ -1,12 +1,10 @@
 -- The cases of a start, and the machine of a state of zeros.
 use Prim.Native.Nat.{ℕ, _%_, _<_, _≤_}
-use mathlib.Core.Bool.{Bool, true, false, cond, not, _&&_}
-use mathlib.Core.Path.{_≡_, refl, sym, _∙_, ap}
-use mathlib.Core.List.{List, map}
-use lib.Dec.{eqb, leb}
+use mathlib.Core.Path.{_≡_, _∙_, ap}
+use mathlib.Core.List.{List}
 use lib.ListN.{length, replicate}
 use borrow.Author.Tests.{eq-eqb, ne-eqb, le-leb, lt-leb}
-use Rattle.values.specs.Empty.{emptyEntry, emptyLine, emptySlot, noEntries, noLines, zeroCp15, zeroCounts}
+use Rattle.values.specs.Empty.{noEntries, noLines, zeroCp15, zeroCounts}
 use Rattle.values.specs.declared.Entry.{Entry}
 use Rattle.values.specs.declared.Line.{Line}
 use Rattle.values.proofs.Maps.{map-replicate}
@@ -16,11 +14,9 @@ use Rattle.buffer.specs.Packing.{slotsOf}
 use Rattle.cache.specs.Packing.{lineOf, linesOf}
 use Rattle.cache.proofs.Lines.{line-zero}
 use Rattle.sound.specs.Machine.{Machine, fresh}
-use Rattle.step.specs.Refusals.{lentRefusal}
-use Rattle.step.specs.Start.{Started, startRefusal, started}
-use Rattle.sa110.specs.State.{bytesOf, machineIn}
+use Rattle.step.specs.Start.{startRefusal, started}
+use Rattle.sa110.specs.State.{machineIn}
 use Rattle.sa110.specs.declared.State.{State}
-use Rattle.sa110.specs.declared.SlotBytes.{SlotBytes}
 
 abbrev pub zeroState : ℕ → State
 zeroState size =

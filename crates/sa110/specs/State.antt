@@ -2,7 +2,6 @@
 use Prim.Native.Nat.{ℕ}
 use mathlib.Core.List.{List, map}
 use Rattle.values.specs.declared.Cp15.{Cp15}
-use Rattle.values.specs.declared.Answer.{Answer}
 use Rattle.sound.specs.Machine.{Machine}
 use Rattle.access.specs.Access.{Stepped}
 use Rattle.access.specs.Code.{machineOf}

@@ -1,7 +1,7 @@
 -- "The lent things": what a call of the library gets and leaves.
 use Prim.Native.Nat.{ℕ}
 use mathlib.Core.List.{List}
-use lib.ListN.{length, replicate}
+use lib.ListN.{replicate}
 use Rattle.values.specs.Empty.{noEntries, noLines, zeroCp15, zeroCounts}
 use Rattle.values.specs.declared.Cp15.{Cp15}
 use Rattle.values.specs.declared.Counts.{Counts}

@@ -29,7 +29,7 @@ use Rattle.translation.specs.declared.Checked.the-variants.{Passed, Denied}
 use Rattle.translation.specs.Alignment.{alignmentFaults, cleared}
 use Rattle.translation.specs.Faults.{inside, fills, buffers, fillStatus, otherStatus, faultSet}
 use Rattle.translation.specs.Ranges.{PlaceRanged, CheckedRanged}
-use Rattle.translation.specs.Translation.{translation, missesOf, checked}
+use Rattle.translation.specs.Translation.{translation, missesOf}
 use Rattle.sound.specs.Machine.{Machine, memoryOf}
 use Rattle.sound.specs.Meaning.{linesOf, IsSound}
 use Rattle.sound.specs.Formed.{Formed}

@@ -305,6 +305,33 @@ module _ (n : ℕ) (b : Buffer) where
       each-of slotEmpty emptySlot empty-slot back (λ i. ap slotEmpty (back-at i) ∙ clear-of (slotAt b (b .used + i)) (r .empties (b .used + i) (omega arith))) in
       rw (le-leb (b .used) 8 (r .used), f, e)
 
+-- seven tests of which all hold
+pub record Seven (a b c d f g i : Bool) : Type 0 where
+  pub first : a ≡ true
+  pub second : b ≡ true
+  pub third : c ≡ true
+  pub fourth : d ≡ true
+  pub fifth : f ≡ true
+  pub sixth : g ≡ true
+  pub seventh : i ≡ true
+
+pub seven : (a b c d f g i : Bool) → (a && (b && (c && (d && (f && (g && i)))))) ≡ true → Seven a b c d f g i
+seven a b c d f g i h =
+    let h1 = and-right a (b && (c && (d && (f && (g && i))))) h in
+    let h2 = and-right b (c && (d && (f && (g && i)))) h1 in
+    let h3 = and-right c (d && (f && (g && i))) h2 in
+    let h4 = and-right d (f && (g && i)) h3 in
+    let h5 = and-right f (g && i) h4 in
+    record {
+      first = and-left a (b && (c && (d && (f && (g && i))))) h;
+      second = and-left b (c && (d && (f && (g && i)))) h1;
+      third = and-left c (d && (f && (g && i))) h2;
+      fourth = and-left d (f && (g && i)) h3;
+      fifth = and-left f (g && i) h4;
+      sixth = and-left g i h5;
+      seventh = and-right g i h5;
+    }
+
 -- ---- a TLB entry
 
 -- the ranges of a valid one
@@ -319,26 +346,24 @@ pub record EntryRanges (e : Entry) : Type 0 where
 
 pub ranges-mean : (e : Entry) → entryInRange e ≡ true → EntryRanges e
 ranges-mean e h =
-    let a = ltb (e .size) 3 in
-    let b = eqb (baseOf (e .size) (e .vbase)) (e .vbase) in
-    let c = eqb (baseOf (e .size) (e .pbase)) (e .pbase) in
-    let d = ltb (e .vbase) 4294967296 in
-    let f = ltb (e .pbase) 4294967296 in
-    let g = ltb (e .domain) 16 in
-    let i = ltb (e .aps) 256 in
-    let h1 = and-right a (b && (c && (d && (f && (g && i))))) h in
-    let h2 = and-right b (c && (d && (f && (g && i)))) h1 in
-    let h3 = and-right c (d && (f && (g && i))) h2 in
-    let h4 = and-right d (f && (g && i)) h3 in
-    let h5 = and-right f (g && i) h4 in
+    let s =
+    seven
+    (ltb (e .size) 3)
+    (eqb (baseOf (e .size) (e .vbase)) (e .vbase))
+    (eqb (baseOf (e .size) (e .pbase)) (e .pbase))
+    (ltb (e .vbase) 4294967296)
+    (ltb (e .pbase) 4294967296)
+    (ltb (e .domain) 16)
+    (ltb (e .aps) 256)
+    h in
     record {
-      size = ltb-true (e .size) 3 (and-left a (b && (c && (d && (f && (g && i))))) h);
-      vbase = eqb-true (baseOf (e .size) (e .vbase)) (e .vbase) (and-left b (c && (d && (f && (g && i)))) h1);
-      pbase = eqb-true (baseOf (e .size) (e .pbase)) (e .pbase) (and-left c (d && (f && (g && i))) h2);
-      vbase-low = ltb-true (e .vbase) 4294967296 (and-left d (f && (g && i)) h3);
-      pbase-low = ltb-true (e .pbase) 4294967296 (and-left f (g && i) h4);
-      domain = ltb-true (e .domain) 16 (and-left g i h5);
-      aps = ltb-true (e .aps) 256 (and-right g i h5);
+      size = ltb-true (e .size) 3 (s .first);
+      vbase = eqb-true (baseOf (e .size) (e .vbase)) (e .vbase) (s .second);
+      pbase = eqb-true (baseOf (e .size) (e .pbase)) (e .pbase) (s .third);
+      vbase-low = ltb-true (e .vbase) 4294967296 (s .fourth);
+      pbase-low = ltb-true (e .pbase) 4294967296 (s .fifth);
+      domain = ltb-true (e .domain) 16 (s .sixth);
+      aps = ltb-true (e .aps) 256 (s .seventh);
     }
 
 pub ranges-of : (e : Entry) → EntryRanges e → entryInRange e ≡ true
@@ -348,7 +373,6 @@ ranges-of e r =
 -- an entry whose fields are those of the empty entry
 entry-zero : (e : Entry) → entryEmpty e ≡ true → e ≡ emptyEntry
 entry-zero e h =
-    let v = not (e .valid) in
     let a = eqb (e .size) 0 in
     let b = eqb (e .vbase) 0 in
     let c = eqb (e .pbase) 0 in
@@ -356,20 +380,16 @@ entry-zero e h =
     let f = eqb (e .aps) 0 in
     let g = not (e .cacheable) in
     let i = not (e .bufferable) in
-    let h1 = and-right v (a && (b && (c && (d && (f && (g && i)))))) h in
-    let h2 = and-right a (b && (c && (d && (f && (g && i))))) h1 in
-    let h3 = and-right b (c && (d && (f && (g && i)))) h2 in
-    let h4 = and-right c (d && (f && (g && i))) h3 in
-    let h5 = and-right d (f && (g && i)) h4 in
-    let h6 = and-right f (g && i) h5 in
-    let ev : e .valid ≡ false = not-true (e .valid) (and-left v (a && (b && (c && (d && (f && (g && i)))))) h) in
-    let ea : e .size ≡ 0 = eqb-true (e .size) 0 (and-left a (b && (c && (d && (f && (g && i))))) h1) in
-    let eb : e .vbase ≡ 0 = eqb-true (e .vbase) 0 (and-left b (c && (d && (f && (g && i)))) h2) in
-    let ec : e .pbase ≡ 0 = eqb-true (e .pbase) 0 (and-left c (d && (f && (g && i))) h3) in
-    let ed : e .domain ≡ 0 = eqb-true (e .domain) 0 (and-left d (f && (g && i)) h4) in
-    let ef : e .aps ≡ 0 = eqb-true (e .aps) 0 (and-left f (g && i) h5) in
-    let eg : e .cacheable ≡ false = not-true (e .cacheable) (and-left g i h6) in
-    let ei : e .bufferable ≡ false = not-true (e .bufferable) (and-right g i h6) in
+    let t = a && (b && (c && (d && (f && (g && i))))) in
+    let s = seven a b c d f g i (and-right (not (e .valid)) t h) in
+    let ev : e .valid ≡ false = not-true (e .valid) (and-left (not (e .valid)) t h) in
+    let ea : e .size ≡ 0 = eqb-true (e .size) 0 (s .first) in
+    let eb : e .vbase ≡ 0 = eqb-true (e .vbase) 0 (s .second) in
+    let ec : e .pbase ≡ 0 = eqb-true (e .pbase) 0 (s .third) in
+    let ed : e .domain ≡ 0 = eqb-true (e .domain) 0 (s .fourth) in
+    let ef : e .aps ≡ 0 = eqb-true (e .aps) 0 (s .fifth) in
+    let eg : e .cacheable ≡ false = not-true (e .cacheable) (s .sixth) in
+    let ei : e .bufferable ≡ false = not-true (e .bufferable) (s .seventh) in
     rw (ev, ea, eb, ec, ed, ef, eg, ei)
 
 pub record EntryIs (e : Entry) : Type 0 where
@@ -413,26 +433,24 @@ pub record RegistersAre (r : Registers) : Type 0 where
 pub registers-mean : (r : Registers) → registersSound r ≡ true → RegistersAre r
 unfolding registersSound
 registers-mean r h =
-    let a = eqb (kept (r .control)) (r .control) in
-    let b = listed (r .control) in
-    let c = eqb (r .base / 16384 * 16384) (r .base) in
-    let d = ltb (r .base) 4294967296 in
-    let f = ltb (r .domains) 4294967296 in
-    let g = ltb (r .fsr) 256 in
-    let i = ltb (r .far) 4294967296 in
-    let h1 = and-right a (b && (c && (d && (f && (g && i))))) h in
-    let h2 = and-right b (c && (d && (f && (g && i)))) h1 in
-    let h3 = and-right c (d && (f && (g && i))) h2 in
-    let h4 = and-right d (f && (g && i)) h3 in
-    let h5 = and-right f (g && i) h4 in
+    let s =
+    seven
+    (eqb (kept (r .control)) (r .control))
+    (listed (r .control))
+    (eqb (r .base / 16384 * 16384) (r .base))
+    (ltb (r .base) 4294967296)
+    (ltb (r .domains) 4294967296)
+    (ltb (r .fsr) 256)
+    (ltb (r .far) 4294967296)
+    h in
     record {
-      control = eqb-true (kept (r .control)) (r .control) (and-left a (b && (c && (d && (f && (g && i))))) h);
-      combination = and-left b (c && (d && (f && (g && i)))) h1;
-      base = eqb-true (r .base / 16384 * 16384) (r .base) (and-left c (d && (f && (g && i))) h2);
-      base-low = ltb-true (r .base) 4294967296 (and-left d (f && (g && i)) h3);
-      domains = ltb-true (r .domains) 4294967296 (and-left f (g && i) h4);
-      fsr = ltb-true (r .fsr) 256 (and-left g i h5);
-      far = ltb-true (r .far) 4294967296 (and-right g i h5);
+      control = eqb-true (kept (r .control)) (r .control) (s .first);
+      combination = s .second;
+      base = eqb-true (r .base / 16384 * 16384) (r .base) (s .third);
+      base-low = ltb-true (r .base) 4294967296 (s .fourth);
+      domains = ltb-true (r .domains) 4294967296 (s .fifth);
+      fsr = ltb-true (r .fsr) 256 (s .sixth);
+      far = ltb-true (r .far) 4294967296 (s .seventh);
     }
 
 pub registers-of : (r : Registers) → RegistersAre r → registersSound r ≡ true

@@ -9,7 +9,7 @@ use Rattle.values.proofs.Cases.{and-left, and-right}
 use Rattle.sound.specs.Machine.{Machine, memoryOf}
 use Rattle.sound.specs.Soundness.{pointerSound, tagsSound, entrySound, lineSound, bufferSound, registersSound, countsSound, sound}
 use Rattle.sound.specs.Meaning.{linesOf, IsSound}
-use Rattle.soundness.proofs.Parts.{pointers-mean, pointers-of, lines-mean, lines-of, tags-mean, tags-of, buffer-means, buffer-of, entries-mean, entries-of, registers-mean, registers-of, counts-mean, counts-of}
+use Rattle.soundness.proofs.Parts.{seven, pointers-mean, pointers-of, lines-mean, lines-of, tags-mean, tags-of, buffer-means, buffer-of, entries-mean, entries-of, registers-mean, registers-of, counts-mean, counts-of}
 
 -- every test of `sound` passes
 pub record Passes (m : Machine) : Type 0 where
@@ -34,21 +34,17 @@ module _ (m : Machine) where
       let f = all entrySound (m .entries) in
       let g = registersSound (m .cp15 .registers) in
       let i = countsSound (m .counts) (linesOf m) in
-      let h1 = and-right a (b && (c && (d && (e && (f && (g && i)))))) h in
-      let h2 = and-right b (c && (d && (e && (f && (g && i))))) h1 in
-      let h3 = and-right c (d && (e && (f && (g && i)))) h2 in
-      let h4 = and-right d (e && (f && (g && i))) h3 in
-      let h5 = and-right e (f && (g && i)) h4 in
-      let h6 = and-right f (g && i) h5 in
+      let t = b && (c && (d && (e && (f && (g && i))))) in
+      let s = seven b c d e f g i (and-right a t h) in
       record {
-        pointer = and-left a (b && (c && (d && (e && (f && (g && i)))))) h;
-        pointers = and-left b (c && (d && (e && (f && (g && i))))) h1;
-        tags = and-left c (d && (e && (f && (g && i)))) h2;
-        lines = and-left d (e && (f && (g && i))) h3;
-        buffer = and-left e (f && (g && i)) h4;
-        entries = and-left f (g && i) h5;
-        registers = and-left g i h6;
-        counts = and-right g i h6;
+        pointer = and-left a t h;
+        pointers = s .first;
+        tags = s .second;
+        lines = s .third;
+        buffer = s .fourth;
+        entries = s .fifth;
+        registers = s .sixth;
+        counts = s .seventh;
       }
 
   pub passed : Passes m → sound m ≡ true

@@ -1,16 +1,15 @@
 -- What the code asks of the lent lists holds of a machine that refusals 1 to 4 do not hold of, once the call is counted.
-use Prim.Native.Nat.{ℕ, zero, suc, _+_, _*_, _/_, _%_, _<_, _≤_}
+use Prim.Native.Nat.{ℕ, _+_, _*_, _%_, _<_, _≤_}
 use native.Mathlib.Omega.{arith}
-use mathlib.Core.Bool.{Bool, true, false, cond, not}
+use mathlib.Core.Bool.{true}
 use mathlib.Core.Path.{_≡_, refl, sym, _∙_, ap, subst}
 use mathlib.Core.List.{List}
-use lib.Dec.{eqb}
 use lib.ListN.{length, length-map, getD}
 use borrow.Author.Tests.{eq-eqb, ne-eqb, le-leb}
 use native.Mathlib.Nat.{add-zero}
 use Rattle.values.specs.Tests.{sum}
 use Rattle.values.specs.Control.{kept}
-use Rattle.values.specs.Empty.{emptyEntry, emptyLine, emptySlot}
+use Rattle.values.specs.Empty.{emptyEntry, emptyLine}
 use Rattle.values.specs.declared.Call.{Call}
 use Rattle.values.specs.declared.Line.{Line}
 use Rattle.values.specs.declared.Slot.{Slot}
@@ -20,23 +19,18 @@ use Rattle.values.proofs.Sums.{sum-out}
 use Rattle.walk.specs.Ranges.{InRange}
 use Rattle.tlb.specs.Packing.{entryOf, entriesOf}
 use Rattle.tlb.proofs.Packing.{entry-at}
-use Rattle.buffer.specs.Packing.{slotOf}
 use Rattle.buffer.proofs.Slots.{slot-at}
 use Rattle.buffer.specs.Ranges.{Fits}
 use Rattle.cache.specs.Dcache.{dirtyHalves}
 use Rattle.cache.specs.Packing.{lineOf, linesOf}
 use Rattle.cache.proofs.Lines.{line-at}
-use Rattle.registers.specs.Refusals.{lengthFits, countRefusal, callRefusal}
-use Rattle.sound.specs.Machine.{Machine, memoryOf, storeOf}
-use Rattle.sound.specs.Soundness.{sound}
+use Rattle.registers.specs.Refusals.{countRefusal, callRefusal}
 use Rattle.sound.specs.Meaning.{IsSound}
-use Rattle.soundness.proofs.Parts.{EntryRanges}
 use Rattle.soundness.proofs.TlbKept.{in-range}
 use Rattle.soundness.proofs.Reader.{sound-means}
 use Rattle.access.specs.declared.Small.{Small}
-use Rattle.access.specs.Access.{Stepped, more}
 use Rattle.access.specs.Code.{Lists, machineOf, steppedOf, TlbReady, SideReady}
-use Rattle.step.specs.Refusals.{storeFits, stateRefusal, refusal}
+use Rattle.step.specs.Refusals.{stateRefusal, refusal}
 use Rattle.step.specs.Call.{done, served}
 use Rattle.step.specs.Code.{Serves}
 

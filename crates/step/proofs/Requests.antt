@@ -1,7 +1,6 @@
 -- What a call asks is what the call does.
-use Prim.Native.Nat.{ℕ}
-use mathlib.Core.Bool.{true, false}
-use mathlib.Core.Path.{_≡_, refl}
+use mathlib.Core.Bool.{true}
+use mathlib.Core.Path.{_≡_}
 use Rattle.values.specs.declared.Call.{Call}
 use Rattle.values.specs.declared.Call.the-variants.{Load, SignedLoad, Store, Read, Write}
 use Rattle.words.specs.Words.{isWidth}

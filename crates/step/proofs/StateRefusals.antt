@@ -1,23 +1,20 @@
 -- The cases of refusals 1 to 4.
 use Prim.Native.Nat.{ℕ, _%_, _<_, _≤_}
 use native.Mathlib.Omega.{arith}
-use mathlib.Core.Bool.{Bool, true, false, cond, not, _&&_}
-use mathlib.Core.Path.{_≡_, refl, sym, _∙_, ap}
+use mathlib.Core.Bool.{Bool, true, false, cond, not}
+use mathlib.Core.Path.{_≡_, refl, sym, _∙_}
 use lib.Dec.{eqb, leb}
 use lib.ListN.{length}
 use borrow.Author.Tests.{eq-eqb, ne-eqb, le-leb, lt-leb, eqb-true, leb-true}
 use Rattle.values.specs.declared.Call.{Call}
 use Rattle.values.specs.declared.Answer.the-variants as answer
-use Rattle.values.proofs.Cases.{case, clash, and-left, and-right}
+use Rattle.values.proofs.Cases.{and-left, and-right}
 use Rattle.registers.specs.Refusals.{lengthFits, countRefusal, callRefusal}
 use Rattle.sound.specs.Machine.{Machine, memoryOf, storeOf}
 use Rattle.sound.specs.Soundness.{sound}
-use Rattle.sound.specs.Formed.{Formed}
 use Rattle.soundness.proofs.Cp15Kept.{not-refused}
-use Rattle.access.specs.Access.{Stepped}
 use Rattle.step.specs.Refusals.{storeFits, stateRefusal, refusal}
 use Rattle.step.specs.Call.{served}
-use Rattle.step.specs.Code.{Serves}
 
 module _ (m : Machine) (next : ℕ) where
   pub refused-odd : (length (memoryOf m) % 32 ≡ 0 → ⊥) → 1 ≡ stateRefusal m next

@@ -1,6 +1,6 @@
 -- "Refused calls, in checking order". 0 is none. "The start meets 1 and 2; an access 1 to 7; a CP15 call 1 to 5 and 8 to 12."
 use Prim.Native.Nat.{ℕ}
-use mathlib.Core.Bool.{Bool, true, false, cond, not, _&&_, _||_}
+use mathlib.Core.Bool.{Bool, cond, not}
 use mathlib.Core.List.{List}
 use lib.Dec.{eqb}
 use lib.ListN.{length}

@@ -1,36 +1,31 @@
 -- An access: alignment, translation and rights, then the load or the store. R4, R5 and R6 are used in translation alone.
-use Prim.Native.Nat.{ℕ, _+_, _%_, _<_}
+use Prim.Native.Nat.{ℕ, _<_}
 use native.Mathlib.Omega.{arith}
 use native.Mathlib.Nat.{add-zero}
-use mathlib.Core.Bool.{Bool, true, false, cond, not, _&&_}
+use mathlib.Core.Bool.{Bool, true, false, not}
 use mathlib.Core.Path.{_≡_, refl, sym, _∙_, ap, subst}
-use mathlib.Core.List.{List}
 use lib.ListN.{length}
 use Rattle.values.specs.Control.{mmu}
-use Rattle.values.specs.Addresses.{virtualLine, physicalLine}
 use Rattle.values.specs.declared.VirtualAddress.{VirtualAddress}
 use Rattle.values.specs.declared.Registers.{Registers}
-use Rattle.values.specs.declared.Entry.{Entry}
 use Rattle.values.specs.declared.Access.{Access}
-use Rattle.values.specs.declared.Status.the-variants.{Alignment}
 use Rattle.values.proofs.Cases.{case, and-both}
 use Rattle.words.specs.Words.{isWidth}
 use Rattle.cache.specs.Dcache.{find}
 use Rattle.translation.specs.Alignment.{alignmentFaults, cleared}
-use Rattle.translation.specs.Translation.{translation, entriesAfter, walkedOnly, checked}
-use Rattle.translation.specs.Ranges.{PlaceRanged, CheckedRanged}
-use Rattle.translation.specs.declared.Translation.{Translation}
+use Rattle.translation.specs.Translation.{translation, entriesAfter, checked}
+use Rattle.translation.specs.Ranges.{CheckedRanged}
 use Rattle.translation.specs.declared.Place.{Place}
 use Rattle.translation.specs.declared.Checked.{Checked}
 use Rattle.translation.specs.declared.Checked.the-variants.{Passed, Denied}
-use Rattle.sound.specs.Machine.{Machine, memoryOf}
-use Rattle.access.specs.Access.{Stepped, Reach, reach, translate, committed, faulted, loadAt, loadFound, load, storeAt, storeFound, store}
-use Rattle.plain.specs.Plain.{Plain, PlainStepped, plainReach, plainTranslate, plainLoadAt, plainLoad, plainStoreAt, plainStore, plainFaulted}
+use Rattle.sound.specs.Machine.{Machine}
+use Rattle.access.specs.Access.{Reach, reach, translate, committed, faulted, loadAt, loadFound, load, storeAt, storeFound, store}
+use Rattle.plain.specs.Plain.{Plain, plainReach, plainTranslate, plainLoadAt, plainLoad, plainStoreAt, plainStore, plainFaulted}
 use Rattle.plain.proofs.Laws.{load-by, store-by}
 use Rattle.soundness.proofs.TlbKept.{EntriesAre, translation-serves, checked-ranged}
 use Rattle.terms.specs.History.{History, afterReach, afterStore}
 use Rattle.terms.specs.Rules.{R2, walks, AccessAllowed}
-use Rattle.terms.proofs.Invariant.{SideAgrees, TlbAgrees, Readable}
+use Rattle.terms.proofs.Invariant.{TlbAgrees, Readable}
 use Rattle.terms.proofs.TlbAgreement.{checked-agrees, tlb-committed, tlb-history}
 use Rattle.terms.proofs.Reaching.{reach-here, reach-side}
 use Rattle.terms.proofs.Alike.{Shared, Alike, alike-by, faulted-alike}

@@ -1,10 +1,8 @@
 -- One call, refused or not: the same answer, and the machines agree again.
-use Prim.Native.Nat.{ℕ, _+_, _/_, _*_, _%_, _<_}
+use Prim.Native.Nat.{ℕ, _+_, _/_, _*_}
 use native.Mathlib.Omega.{arith}
-use native.Mathlib.Nat.{add-zero}
-use mathlib.Core.Bool.{Bool, true, false, cond}
-use mathlib.Core.Path.{_≡_, refl, sym, _∙_, ap, subst}
-use mathlib.Core.List.{List}
+use mathlib.Core.Bool.{Bool, true, false}
+use mathlib.Core.Path.{_≡_, refl, sym, _∙_, ap}
 use lib.Dec.{eqb}
 use lib.ListN.{length}
 use borrow.Author.Tests.{eqb-true}
@@ -16,11 +14,11 @@ use Rattle.values.proofs.Cases.{case}
 use Rattle.registers.specs.Refusals.{countRefusal, callRefusal}
 use Rattle.translation.proofs.Laws.{load-accepted, store-accepted}
 use Rattle.sound.specs.Machine.{Machine, memoryOf}
-use Rattle.access.specs.Access.{Stepped, more}
-use Rattle.plain.specs.Plain.{Plain, PlainStepped, plainReach, plainDone, plainRefusal, counted, plainly}
+use Rattle.access.specs.Access.{more}
+use Rattle.plain.specs.Plain.{Plain, plainReach, plainDone, plainRefusal, counted, plainly}
 use Rattle.soundness.proofs.Holding.{Holding, holding-of}
 use Rattle.soundness.proofs.AccessKept as kept
-use Rattle.step.specs.Refusals.{stateRefusal, refusal}
+use Rattle.step.specs.Refusals.{refusal}
 use Rattle.step.specs.Call.{done, served, Numbers}
 use Rattle.step.proofs.SoundKept.{call-accepted, sound-kept}
 use Rattle.step.proofs.StateRefusals.{not-state-refused}

@@ -1,13 +1,13 @@
 -- A clean of a line, and a drain.
-use Prim.Native.Nat.{ℕ, _+_, _*_, _/_, _%_, _<_, _≤_}
+use Prim.Native.Nat.{ℕ, _+_, _*_, _/_, _%_, _<_}
 use native.Mathlib.Omega.{arith}
-use mathlib.Core.Bool.{Bool, true, false, cond, _||_}
+use mathlib.Core.Bool.{Bool, true, false, _||_}
 use mathlib.Core.Logic.{_≢_}
 use mathlib.Core.Path.{_≡_, refl, sym, _∙_, ap, subst}
 use mathlib.Core.List.{List}
 use lib.Dec.{eqb, ltb}
-use lib.ListN.{length, getD}
-use borrow.Author.Tests.{eqb-true, eqb-false, eq-eqb, ne-eqb}
+use lib.ListN.{getD}
+use borrow.Author.Tests.{eqb-true, eqb-false, ne-eqb}
 use Rattle.values.specs.Addresses.{virtualLine}
 use Rattle.values.specs.declared.VirtualAddress.{VirtualAddress}
 use Rattle.values.specs.declared.Line.{Line}
@@ -16,11 +16,11 @@ use Rattle.values.specs.declared.Search.the-variants.{At, Nothing}
 use Rattle.values.proofs.Cases.{case, clash, or-left, or-right}
 use Rattle.buffer.specs.Buffer.{Backing, drained}
 use Rattle.buffer.proofs.Below.{below}
-use Rattle.cache.specs.Dcache.{Dcache, Side, find, cleanLine, cleanedAt, cleaned}
+use Rattle.cache.specs.Dcache.{Side, find, cleanLine, cleanedAt, cleaned}
 use Rattle.cache.proofs.PutGet.{SameLine, line-cleaned, other-cleaned, same-cleaned-at, backing-cleaned, clean-none, cleaned-as}
 use Rattle.cache.proofs.Unchanged.{store-cleaned-at}
 use Rattle.cache.proofs.Finds.{found}
-use Rattle.soundness.proofs.CacheKept.{SideIs, cleaned-kept}
+use Rattle.soundness.proofs.CacheKept.{SideIs}
 use Rattle.terms.specs.History.{Stage, never, stored, cleaned as isCleaned, drained as isDrainedStage, flushed, History, afterClean, afterDrain, afterLineClean, afterBufferDrain, lineOfWord}
 use Rattle.terms.specs.Rules.{isStored, isDrained}
 use Rattle.terms.proofs.Invariant.{at, virtualAt, dirtyAt, Undirty, Staged, byWord, byLine, SideAgrees}

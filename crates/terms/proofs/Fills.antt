@@ -1,7 +1,7 @@
 -- A load that misses: the line that is filled, or the bytes that are read from memory, are the plain machine's.
 use Prim.Native.Nat.{ℕ, _+_, _*_, _/_, _%_, _<_, _≤_}
 use native.Mathlib.Omega.{arith}
-use mathlib.Core.Bool.{Bool, true, false, _||_}
+use mathlib.Core.Bool.{true, false, _||_}
 use mathlib.Core.Logic.{_≢_}
 use mathlib.Core.Path.{_≡_, refl, sym, _∙_, ap, subst}
 use mathlib.Core.List.{List}
@@ -16,14 +16,14 @@ use Rattle.values.specs.declared.Search.the-variants.{Nothing}
 use Rattle.values.proofs.Cases.{case, clash}
 use Rattle.buffer.specs.Buffer.{Backing, ready}
 use Rattle.buffer.proofs.Below.{below}
-use Rattle.cache.specs.Dcache.{Dcache, Side, find, victim, freshLine, halvesSent, filled}
+use Rattle.cache.specs.Dcache.{Side, find, victim, freshLine, halvesSent, filled}
 use Rattle.cache.proofs.PutGet.{filled-backing, line-filled, other-filled, byte-filled, byte-before-filled, byte-behind-filled}
 use Rattle.cache.proofs.Unchanged.{victim-low}
 use Rattle.soundness.proofs.BackingKept.{BackingIs}
 use Rattle.soundness.proofs.CacheKept.{SideIs, halves-kept}
 use Rattle.terms.specs.History.{Stage, History}
 use Rattle.terms.specs.Rules.{isStored}
-use Rattle.terms.proofs.Invariant.{at, virtualAt, dirtyAt, Undirty, Staged, byWord, byLine, SideAgrees}
+use Rattle.terms.proofs.Invariant.{at, dirtyAt, Undirty, Staged, byWord, byLine, SideAgrees}
 use Rattle.terms.proofs.BackingAgrees.{below-ready, ready-memory-below, staged-ready}
 use Rattle.terms.proofs.HeldLines.{missed-frame}
 use Rattle.terms.proofs.SentLines.{sent-below, sent-staged}

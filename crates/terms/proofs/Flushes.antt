@@ -1,7 +1,6 @@
 -- Flushes of the Dcache, which R3 allows, and of the TLB. The one place where R3 is used.
 use Prim.Native.Nat.{ℕ, _+_, _*_, _/_, _%_}
-use mathlib.Core.Bool.{Bool, true, false, cond, _||_}
-use mathlib.Core.Logic.{_≢_}
+use mathlib.Core.Bool.{true, false, _||_}
 use mathlib.Core.Path.{_≡_, refl, sym, _∙_, ap, subst}
 use mathlib.Core.List.{List}
 use lib.Dec.{eqb, ltb}
@@ -16,12 +15,12 @@ use Rattle.values.specs.declared.Search.the-variants.{At, Nothing}
 use Rattle.values.proofs.Cases.{case, clash, or-left, or-right}
 use Rattle.cache.specs.Dcache.{Dcache, Side, find, flushedAt, lineFlushed, allFlushed}
 use Rattle.cache.proofs.PutGet.{line-flushed, other-flushed, flush-none, flushed-as, all-flushed}
-use Rattle.cache.proofs.Unchanged.{store-flushed-at, store-all-flushed}
+use Rattle.cache.proofs.Unchanged.{store-flushed-at}
 use Rattle.cache.proofs.Finds.{found}
 use Rattle.soundness.proofs.CacheKept.{SideIs}
 use Rattle.terms.specs.History.{Stage, never, stored, cleaned, drained, flushed, History, afterTlbFlush, afterWholeFlush, afterWholeTlbFlush}
 use Rattle.terms.specs.Rules.{isStored, isDrained}
-use Rattle.terms.proofs.Invariant.{at, virtualAt, dirtyAt, Undirty, Staged, byWord, byLine, CacheAgrees, SideAgrees}
+use Rattle.terms.proofs.Invariant.{at, dirtyAt, Undirty, byWord, SideAgrees}
 use Rattle.terms.proofs.HeldLines.{found-virtual}
 
 -- ---- lines that are not dirty

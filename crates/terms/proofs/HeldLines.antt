@@ -1,21 +1,20 @@
 -- Which line holds an address, and that no two lines hold one virtual or one physical line.
 use Prim.Native.Nat.{ℕ, _+_, _*_, _/_, _%_, _<_, _≤_}
 use native.Mathlib.Omega.{arith}
-use mathlib.Core.Bool.{Bool, true, false}
-use mathlib.Core.Path.{_≡_, refl, sym, _∙_, ap, subst}
+use mathlib.Core.Bool.{Bool, true}
+use mathlib.Core.Path.{_≡_, sym, _∙_, ap, subst}
 use mathlib.Core.List.{List}
 use lib.Dec.{eqb, ltb}
-use lib.ListN.{length, getD, List·getD-eq-default}
-use borrow.Author.Tests.{eqb-true, eqb-false, eq-eqb, ltb-true, ltb-false}
-use Rattle.values.specs.Addresses.{virtualLine, physicalLine, setOf, tagOf}
+use lib.ListN.{List·getD-eq-default}
+use borrow.Author.Tests.{eq-eqb, ltb-true, ltb-false}
+use Rattle.values.specs.Addresses.{virtualLine, setOf, tagOf}
 use Rattle.values.specs.Empty.{emptyLine}
 use Rattle.values.specs.declared.VirtualAddress.{VirtualAddress}
-use Rattle.values.specs.declared.PhysicalAddress.{PhysicalAddress}
 use Rattle.values.specs.declared.Line.{Line}
 use Rattle.values.specs.declared.Search.the-variants.{At, Nothing}
 use Rattle.values.proofs.Cases.{case, clash, and-both}
-use Rattle.cache.specs.Dcache.{Dcache, matches, find}
-use Rattle.cache.proofs.Finds.{Found, found, missed}
+use Rattle.cache.specs.Dcache.{Dcache, find}
+use Rattle.cache.proofs.Finds.{found, missed}
 use Rattle.soundness.proofs.CacheKept.{CacheIs}
 use Rattle.terms.proofs.Invariant.{at, virtualAt, OneToOne}
 

@@ -1,33 +1,31 @@
 -- A store that hits: the line and its half's mark change, and the plain machine's memory.
 use Prim.Native.Nat.{ℕ, _+_, _-_, _*_, _/_, _%_, _<_, _≤_}
 use native.Mathlib.Omega.{arith}
-use mathlib.Core.Bool.{Bool, true, false, cond, _||_}
+use mathlib.Core.Bool.{true, false, _||_}
 use mathlib.Core.Logic.{_≢_}
-use mathlib.Core.Path.{_≡_, refl, sym, _∙_, ap, subst}
+use mathlib.Core.Path.{_≡_, sym, _∙_, ap, subst}
 use mathlib.Core.List.{List}
 use lib.Dec.{eqb, ltb}
 use lib.ListN.{length, getD}
 use borrow.Author.Tests.{eqb-true, eqb-false, eq-eqb, ne-eqb, ltb-true, ltb-false, lt-ltb, le-ltb}
 use Rattle.values.specs.Addresses.{virtualLine, physicalLine, offsetOf}
-use Rattle.values.specs.Empty.{emptyLine}
 use Rattle.values.specs.declared.VirtualAddress.{VirtualAddress}
 use Rattle.values.specs.declared.Line.{Line}
 use Rattle.values.specs.declared.Search.the-variants.{At}
 use Rattle.values.proofs.Cases.{case, clash}
 use Rattle.words.specs.Words.{stored}
-use Rattle.words.proofs.Laws.{byte-before, byte-behind, byte-in}
 use Rattle.buffer.proofs.Below.{below}
 use Rattle.cache.specs.Dcache.{Dcache, Side, find, marked, hitStore}
 use Rattle.cache.proofs.PutGet.{SameLine, line-stored, other-stored, same-stored, byte-stored, byte-before-stored, byte-behind-stored}
 use Rattle.cache.proofs.Finds.{found}
-use Rattle.soundness.proofs.CacheKept.{CacheIs, SideIs}
+use Rattle.soundness.proofs.CacheKept.{SideIs}
 use Rattle.translation.specs.declared.Place.{Place}
 use Rattle.terms.specs.History.{History, withStore}
 use Rattle.terms.specs.Rules.{isStored}
 use Rattle.terms.proofs.Invariant.{at, virtualAt, dirtyAt, Undirty, byWord, byLine, SideAgrees}
 use Rattle.terms.proofs.SettledBytes.{Outside, outside-stored}
 use Rattle.terms.proofs.BackingAgrees.{staged-hit}
-use Rattle.terms.proofs.HeldLines.{valid-low, found-virtual, same-frame, found-frame}
+use Rattle.terms.proofs.HeldLines.{found-virtual, same-frame, found-frame}
 use Rattle.terms.proofs.StoredBytes.{inside-or, words-stored, lines-stored}
 
 -- ---- the mark

@@ -2,13 +2,12 @@
 use Prim.Native.Nat.{ℕ, _+_, _*_, _/_, _%_, _<_, _≤_}
 use native.Mathlib.Omega.{arith}
 use native.Mathlib.Nat.{add-zero}
-use mathlib.Core.Bool.{Bool, true, false, cond}
-use mathlib.Core.Path.{_≡_, refl, sym, _∙_, ap, subst}
-use mathlib.Core.List.{List}
+use mathlib.Core.Bool.{Bool, true, false}
+use mathlib.Core.Path.{_≡_, refl, sym, _∙_, ap}
 use lib.Dec.{ltb}
 use lib.ListN.{length, getD}
-use borrow.Author.Tests.{ltb-true, ltb-false, lt-ltb, le-ltb}
-use Rattle.values.specs.Addresses.{virtualLine, physicalLine, offsetOf}
+use borrow.Author.Tests.{ltb-true, ltb-false}
+use Rattle.values.specs.Addresses.{virtualLine, physicalLine}
 use Rattle.values.specs.declared.Access.{Access}
 use Rattle.values.specs.declared.Registers.{Registers}
 use Rattle.values.specs.declared.Search.{Search}
@@ -18,19 +17,19 @@ use Rattle.words.specs.Words.{valueAt, isWidth}
 use Rattle.words.specs.Signed.{loadAnswer}
 use Rattle.words.proofs.Laws.{same-bytes}
 use Rattle.buffer.specs.Buffer.{ready}
-use Rattle.cache.specs.Dcache.{Dcache, Side, find, hitLoad, victim, filled}
+use Rattle.cache.specs.Dcache.{Dcache, find, hitLoad, victim, filled}
 use Rattle.cache.proofs.Finds.{found}
 use Rattle.translation.specs.Alignment.{cleared}
-use Rattle.translation.specs.Faults.{inside, fills, fillStatus, otherStatus}
+use Rattle.translation.specs.Faults.{fills, fillStatus, otherStatus}
 use Rattle.translation.specs.declared.Place.{Place}
 use Rattle.translation.specs.declared.Checked.the-variants.{Passed}
 use Rattle.sound.specs.Machine.{Machine, memoryOf}
-use Rattle.access.specs.Access.{Stepped, faulted, loadHit, loadFill, loadUncached, loadMiss, loadFound}
+use Rattle.access.specs.Access.{faulted, loadHit, loadFill, loadUncached, loadMiss, loadFound}
 use Rattle.access.proofs.Laws.{in-line}
-use Rattle.plain.specs.Plain.{Plain, PlainStepped, plainLoadAt, plainFaulted}
+use Rattle.plain.specs.Plain.{Plain, PlainStepped, plainLoadAt}
 use Rattle.plain.proofs.Laws.{load-in, load-fill, load-other}
 use Rattle.terms.specs.History.{History}
-use Rattle.terms.proofs.Invariant.{at, SideAgrees}
+use Rattle.terms.proofs.Invariant.{at}
 use Rattle.terms.proofs.HeldLines.{found-frame}
 use Rattle.terms.proofs.Fills.{ready-side, uncached-byte, filled-byte, filled-side}
 use Rattle.terms.proofs.Alike.{Shared, Alike, alike-by, faulted-alike}

@@ -1,10 +1,9 @@
 -- A store that misses, into the write buffer or into memory.
 use Prim.Native.Nat.{ℕ, _+_, _*_, _/_, _%_, _<_, _≤_}
 use native.Mathlib.Omega.{arith}
-use mathlib.Core.Bool.{Bool, true, false, _||_}
-use mathlib.Core.Path.{_≡_, refl, sym, _∙_, ap}
+use mathlib.Core.Bool.{true}
+use mathlib.Core.Path.{_≡_, sym, _∙_}
 use mathlib.Core.List.{List}
-use lib.Dec.{eqb}
 use lib.ListN.{length, getD}
 use borrow.Author.Tests.{ne-eqb}
 use Rattle.values.specs.Addresses.{virtualLine, physicalLine}
@@ -13,7 +12,7 @@ use Rattle.values.specs.declared.Search.the-variants.{Nothing}
 use Rattle.words.specs.Words.{stored}
 use Rattle.buffer.specs.Buffer.{Backing, drained, buffered}
 use Rattle.buffer.proofs.Below.{below}
-use Rattle.cache.specs.Dcache.{Dcache, Side, find}
+use Rattle.cache.specs.Dcache.{Side, find}
 use Rattle.soundness.proofs.CacheKept.{SideIs}
 use Rattle.translation.specs.declared.Place.{Place}
 use Rattle.terms.specs.History.{History, withStore}

@@ -1,6 +1,6 @@
 -- An access that passes reaches a line: R2 keeps the lines reached one to one. The one place where R2 is used.
 use Prim.Native.Nat.{ℕ}
-use mathlib.Core.Bool.{Bool, true, false, _&&_, _||_}
+use mathlib.Core.Bool.{Bool, true, _&&_, _||_}
 use mathlib.Core.Path.{_≡_, refl, sym, _∙_}
 use mathlib.Core.List.{List}
 use lib.Dec.{eqb}
@@ -13,7 +13,7 @@ use Rattle.translation.specs.declared.Place.{Place}
 use Rattle.translation.specs.declared.Checked.the-variants.{Passed}
 use Rattle.terms.specs.History.{History, afterReach}
 use Rattle.terms.specs.Rules.{R2}
-use Rattle.terms.proofs.Invariant.{at, virtualAt, OneToOne, CacheAgrees, SideAgrees}
+use Rattle.terms.proofs.Invariant.{at, virtualAt, OneToOne, SideAgrees}
 
 module _ (h : History) (va : VirtualAddress) (l : Place) where
   abbrev v₀ : ℕ

@@ -1,23 +1,22 @@
 -- The dirty halves of one line sent out: the bytes below the cache that no other line holds dirty are then the plain machine's.
 use Prim.Native.Nat.{ℕ, _+_, _*_, _/_, _%_, _<_, _≤_}
 use native.Mathlib.Omega.{arith}
-use mathlib.Core.Bool.{Bool, true, false, cond, _&&_}
+use mathlib.Core.Bool.{true, false, _&&_}
 use mathlib.Core.Logic.{_≢_}
-use mathlib.Core.Path.{_≡_, refl, sym, _∙_, ap, subst}
+use mathlib.Core.Path.{_≡_, sym, _∙_, ap, subst}
 use mathlib.Core.List.{List}
 use lib.Dec.{eqb}
 use lib.ListN.{length, getD}
 use borrow.Author.Tests.{eqb-true, eqb-false, eq-eqb}
-use Rattle.values.specs.Empty.{emptyLine}
 use Rattle.values.specs.declared.Line.{Line}
-use Rattle.values.proofs.Cases.{case, clash, and-left, and-right, and-no}
+use Rattle.values.proofs.Cases.{case, clash, and-left, and-no}
 use Rattle.buffer.specs.Buffer.{Backing}
 use Rattle.buffer.proofs.Below.{below}
-use Rattle.cache.specs.Dcache.{Dcache, Side, halvesSent}
+use Rattle.cache.specs.Dcache.{Side, halvesSent}
 use Rattle.cache.proofs.Unchanged.{none-sent}
 use Rattle.soundness.proofs.CacheKept.{SideIs}
 use Rattle.terms.specs.History.{Stage, History}
-use Rattle.terms.proofs.Invariant.{at, dirtyAt, Undirty, Staged, SideAgrees}
+use Rattle.terms.proofs.Invariant.{at, dirtyAt, Staged, SideAgrees}
 use Rattle.terms.proofs.BackingAgrees.{below-sent, staged-sent}
 
 module _ (n : ℕ) (s : Side) (k : SideIs n s) (pm : List ℕ) (h : History) (g : SideAgrees s pm h) (j : ℕ) (low : j < 512) where

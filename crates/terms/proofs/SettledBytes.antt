@@ -23,7 +23,7 @@ use Rattle.words.proofs.Laws.{byte-before, byte-behind}
 use Rattle.buffer.specs.Buffer.{Backing, slotAt, oldestLeft, drained, behind, pushed, halfPushed, newestOf, maskOf, joined, newSlot, storedAt, buffered, masks, meets, holds}
 use Rattle.buffer.proofs.Joining.{newest-below}
 use Rattle.buffer.proofs.Below.{over, below, laid-slot, empty-masks, Behind, Good, drained-below, drained-memory}
-use Rattle.buffer.proofs.Lengths.{BufferShape, memory-oldest, memory-behind, slot-oldest, used-oldest, slot-drained, slot-behind, slot-other, used-behind, shape-oldest, shape-behind}
+use Rattle.buffer.proofs.Lengths.{memory-behind, slot-oldest, used-oldest, slot-drained, slot-behind, slot-other}
 use Rattle.buffer.proofs.StoredBelow.{or-bit, mask-before, mask-in, mask-behind, laidOver, as-stored, newest-block, over-away, half-below, buffered-below}
 use Rattle.soundness.proofs.BackingKept.{BackingIs, oldest-kept}
 use Rattle.terms.proofs.Invariant.{SettledAt}

@@ -1,25 +1,23 @@
 -- A served start: the machines agree, with nothing in the history.
-use Prim.Native.Nat.{ℕ, _*_, _/_, _+_}
-use mathlib.Core.Bool.{Bool, true, false, cond, _||_}
+use Prim.Native.Nat.{ℕ, _/_}
+use mathlib.Core.Bool.{true, false}
 use mathlib.Core.Path.{_≡_, refl, sym, _∙_, ap, subst}
 use mathlib.Core.List.{List}
-use lib.ListN.{length, getD}
-use Rattle.values.specs.Empty.{emptySlot, emptyLine, noLines, noEntries, zeroRegisters}
+use lib.ListN.{getD}
+use Rattle.values.specs.Empty.{emptySlot, emptyLine, noLines, noEntries}
 use Rattle.values.specs.declared.Slot.{Slot}
 use Rattle.values.specs.declared.Line.{Line}
-use Rattle.values.specs.declared.Entry.{Entry}
 use Rattle.values.proofs.Cases.{clash}
 use Rattle.words.specs.Words.{Bytes}
 use Rattle.tlb.specs.Tlb.{flushed}
-use Rattle.buffer.specs.Buffer.{Backing, emptyBuffer, slotAt, masks}
+use Rattle.buffer.specs.Buffer.{Backing, emptyBuffer, masks}
 use Rattle.buffer.proofs.Below.{below, over-empties, empty-masks}
-use Rattle.cache.specs.Dcache.{Side}
-use Rattle.sound.specs.Machine.{Machine, fresh, memoryOf}
+use Rattle.sound.specs.Machine.{fresh}
 use Rattle.soundness.proofs.Parts.{same-at}
 use Rattle.step.specs.Start.{startRefusal, started}
 use Rattle.step.proofs.SoundKept.{start-sound}
-use Rattle.plain.specs.Plain.{Plain, plainStart}
-use Rattle.terms.specs.History.{Stage, History, noHistory}
+use Rattle.plain.specs.Plain.{plainStart}
+use Rattle.terms.specs.History.{Stage, noHistory}
 use Rattle.terms.proofs.Invariant.{at, SettledAt, Staged, SideAgrees, TlbAgrees, Agrees}
 use Rattle.terms.proofs.TlbAgreement.{tlb-flushed}
 

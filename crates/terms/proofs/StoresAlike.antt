@@ -1,8 +1,8 @@
 -- A store that passes: hit, buffered store, dropped store, direct store, or fault.
-use Prim.Native.Nat.{ℕ, _+_, _*_, _/_, _%_, _<_, _≤_}
+use Prim.Native.Nat.{ℕ, _+_, _/_, _%_, _<_, _≤_}
 use native.Mathlib.Omega.{arith}
 use native.Mathlib.Nat.{add-zero}
-use mathlib.Core.Bool.{Bool, true, false, cond, _||_}
+use mathlib.Core.Bool.{true, false, _||_}
 use mathlib.Core.Path.{_≡_, refl, sym, _∙_, ap, subst}
 use mathlib.Core.List.{List}
 use lib.Dec.{eqb, ltb}
@@ -19,15 +19,15 @@ use Rattle.values.proofs.Cases.{case, or-cases}
 use Rattle.words.specs.Words.{stored, isWidth}
 use Rattle.words.proofs.Laws.{length-stored}
 use Rattle.buffer.specs.Buffer.{drained, buffered}
-use Rattle.cache.specs.Dcache.{Side, find, hitStore}
+use Rattle.cache.specs.Dcache.{find, hitStore}
 use Rattle.cache.proofs.Finds.{found}
 use Rattle.translation.specs.Alignment.{cleared}
 use Rattle.translation.specs.Faults.{buffers, otherStatus, inside}
 use Rattle.translation.specs.declared.Place.{Place}
 use Rattle.translation.specs.declared.Checked.the-variants.{Passed}
 use Rattle.sound.specs.Machine.{Machine, memoryOf}
-use Rattle.access.specs.Access.{Stepped, faulted, more, withCache, withBacking, answersZero, storeHit, storeBuffered, storeDirect, storeMiss, storeFound}
-use Rattle.plain.specs.Plain.{Plain, PlainStepped, plainStoreAt, plainFaulted, plainWritten}
+use Rattle.access.specs.Access.{faulted, more, withCache, withBacking, answersZero, storeHit, storeBuffered, storeDirect, storeMiss, storeFound}
+use Rattle.plain.specs.Plain.{Plain, PlainStepped, plainStoreAt, plainWritten}
 use Rattle.plain.proofs.Laws.{store-in, store-drop, store-other}
 use Rattle.terms.specs.History.{History, withStore, afterStore}
 use Rattle.terms.proofs.Invariant.{at, SideAgrees, TlbAgrees}

@@ -1,9 +1,7 @@
 -- Term 1, proved.
 use Prim.Native.Nat.{ℕ}
-use mathlib.Core.Bool.{Bool, true, false, cond}
-use mathlib.Core.Path.{_≡_, refl, sym, _∙_, ap, subst}
+use mathlib.Core.Bool.{Bool, true, false}
 use mathlib.Core.List.{List}
-use lib.Dec.{eqb}
 use lib.ListN.{length}
 use borrow.Author.Tests.{eq-eqb, ne-eqb}
 use Rattle.values.specs.declared.Access.{Access}
@@ -21,7 +19,7 @@ use Rattle.translation.specs.Faults.{inside, fills, buffers}
 use Rattle.translation.specs.declared.Place.{Place}
 use Rattle.translation.specs.declared.Checked.{Checked}
 use Rattle.translation.specs.declared.Checked.the-variants.{Passed, Denied}
-use Rattle.sound.specs.Machine.{Machine, memoryOf, fresh}
+use Rattle.sound.specs.Machine.{Machine, memoryOf}
 use Rattle.access.specs.Access.{Stepped, more, faulted, loadHit, loadFill, loadUncached, loadMiss, loadFound, loadAt, load, reach, storeHit, storeBuffered, storeDirect, storeMiss, storeFound, storeAt, store}
 use Rattle.cp15.specs.Operations as cp15
 use Rattle.step.specs.Refusals.{refusal}

@@ -1,8 +1,7 @@
 -- Term 3, proved.
-use Prim.Native.Nat.{ℕ, _/_}
-use mathlib.Core.Path.{_≡_, refl, sym, _∙_, ap}
+use Prim.Native.Nat.{_/_}
+use mathlib.Core.Path.{_≡_, refl}
 use mathlib.Core.List.{List, [], _∷_}
-use lib.ListN.{length}
 use lib.Seq.{ext-getD}
 use Rattle.values.specs.declared.Call.{Call}
 use Rattle.trace.specs.Fold.{answersOf, finalOf}

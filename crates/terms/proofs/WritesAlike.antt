@@ -1,27 +1,24 @@
 -- CP15 reads and writes: the registers, and the operations of registers 7 and 8.
-use Prim.Native.Nat.{ℕ, _+_, _/_, _%_, _<_}
+use Prim.Native.Nat.{ℕ, _/_}
 use native.Mathlib.Omega.{arith}
 use native.Mathlib.Nat.{add-zero}
-use mathlib.Core.Bool.{Bool, true, false, cond, _&&_, _||_}
+use mathlib.Core.Bool.{Bool, true, false, _&&_}
 use mathlib.Core.Path.{_≡_, refl, sym, _∙_, ap, subst}
-use mathlib.Core.List.{List}
 use lib.Dec.{eqb}
-use lib.ListN.{length}
 use borrow.Author.Tests.{eqb-true, eq-eqb, ne-eqb}
 use Rattle.values.specs.Addresses.{virtualLine}
 use Rattle.values.specs.declared.VirtualAddress.{VirtualAddress}
 use Rattle.values.specs.declared.Registers.{Registers}
 use Rattle.values.specs.declared.Transfer.{Transfer}
 use Rattle.values.specs.declared.Answer.the-variants as answer
-use Rattle.values.proofs.Cases.{case, and-left, and-right, or-cases}
+use Rattle.values.proofs.Cases.{case, and-left, and-right}
 use Rattle.registers.specs.Refusals.{isPair}
 use Rattle.registers.specs.Registers.{readOf, writtenOf}
 use Rattle.sound.specs.Machine.{Machine}
-use Rattle.access.specs.Access.{Stepped}
 use Rattle.cp15.specs.Operations.{flushesDcache, flushesLine, cleansLine, drains, flushesTlb, dropsEntries, operated, read, write}
-use Rattle.plain.specs.Plain.{Plain, PlainStepped, plainRead, plainWrite}
-use Rattle.terms.specs.History.{Stage, History, afterTlbFlush, afterWrite, afterLineClean, afterBufferDrain, afterWholeTlbFlush, afterWholeFlush, afterBaseWrite, afterClean, afterDrain, never, stored, cleaned, drained, flushed}
-use Rattle.terms.specs.Rules.{isStored, isFlushed, R3}
+use Rattle.plain.specs.Plain.{Plain, plainRead, plainWrite}
+use Rattle.terms.specs.History.{Stage, History, afterWrite, afterLineClean, afterBufferDrain, afterWholeTlbFlush, afterWholeFlush, afterBaseWrite, afterClean, afterDrain, never, stored, cleaned, drained, flushed}
+use Rattle.terms.specs.Rules.{isFlushed, R3}
 use Rattle.terms.proofs.Invariant.{SideAgrees, TlbAgrees}
 use Rattle.terms.proofs.TlbAgreement.{tlb-flushed, tlb-stale, tlb-dropped, tlb-history}
 use Rattle.terms.proofs.Cleans.{drained-side, cleaned-side}

@@ -1,13 +1,12 @@
 -- What the rules remember of a run. "cleans, drains and flushes are served writes; stores (dropped ones left out), walks and lines reached
 -- are the plain machine's." Whether a call is served is the plain machine's too: refusals 1 to 4 do not occur in a run after a served start.
 use Prim.Native.Nat.{ℕ, _/_}
-use mathlib.Core.Bool.{Bool, true, false, cond, not, _&&_, _||_}
+use mathlib.Core.Bool.{Bool, true, false, cond, _&&_, _||_}
 use mathlib.Core.List.{List, [], _∷_}
 use lib.Dec.{eqb}
 use lib.ListN.{length}
 use Rattle.values.specs.Addresses.{virtualLine, physicalLine, wordOf}
 use Rattle.values.specs.declared.VirtualAddress.{VirtualAddress}
-use Rattle.values.specs.declared.Access.{Access}
 use Rattle.values.specs.declared.Transfer.{Transfer}
 use Rattle.values.specs.declared.Call.{Call}
 use Rattle.values.specs.declared.Call.the-variants.{Load, SignedLoad, Store, Read, Write}

@@ -9,7 +9,6 @@ use Rattle.values.specs.Tests.{all}
 use Rattle.values.specs.Addresses.{virtualLine, physicalLine}
 use Rattle.values.specs.Control.{mmu}
 use Rattle.values.specs.declared.VirtualAddress.{VirtualAddress}
-use Rattle.values.specs.declared.PhysicalAddress.{PhysicalAddress}
 use Rattle.values.specs.declared.Access.{Access}
 use Rattle.values.specs.declared.Transfer.{Transfer}
 use Rattle.values.specs.declared.Call.{Call}

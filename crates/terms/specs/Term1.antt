@@ -8,9 +8,8 @@ use Rattle.values.specs.declared.Call.{Call}
 use Rattle.values.specs.declared.Answer.{Answer}
 use Rattle.values.specs.declared.Answer.the-variants as answer
 use Rattle.sound.specs.Machine.{Machine, fresh}
-use Rattle.access.specs.Access.{Stepped}
 use Rattle.step.specs.Refusals.{refusal}
-use Rattle.step.specs.Start.{startRefusal, Started, started}
+use Rattle.step.specs.Start.{startRefusal, started}
 use Rattle.step.specs.Call.{served}
 
 -- an answer that is a value or a fault

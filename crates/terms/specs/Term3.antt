@@ -5,7 +5,7 @@ use mathlib.Core.Path.{_≡_}
 use mathlib.Core.List.{List, [], _∷_}
 use Rattle.values.specs.declared.Call.{Call}
 use Rattle.words.specs.Words.{Bytes}
-use Rattle.sound.specs.Machine.{Machine, memoryOf}
+use Rattle.sound.specs.Machine.{memoryOf}
 use Rattle.step.specs.Start.{startRefusal, started}
 use Rattle.step.specs.Call.{Numbers}
 use Rattle.step.specs.Run.{answers, final}

@@ -1,16 +1,13 @@
 -- Two addresses under one entry: the walk of one finds what the walk of the other found.
-use Prim.Native.Nat.{ℕ, _+_, _*_, _/_, _%_, _<_, _≤_}
+use Prim.Native.Nat.{ℕ, _*_, _/_, _%_}
 use native.Mathlib.Omega.{arith}
-use mathlib.Core.Bool.{Bool, true, false, cond}
-use mathlib.Core.Path.{_≡_, refl, sym, _∙_, ap, subst}
+use mathlib.Core.Bool.{true}
+use mathlib.Core.Path.{_≡_, sym, _∙_, ap, subst}
 use mathlib.Core.List.{List}
-use lib.Dec.{eqb}
 use borrow.Author.Tests.{eqb-true}
 use Rattle.values.specs.declared.VirtualAddress.{VirtualAddress}
-use Rattle.values.specs.declared.PhysicalAddress.{PhysicalAddress}
 use Rattle.values.specs.declared.Entry.{Entry}
-use Rattle.walk.specs.declared.Descriptor.{Descriptor}
-use Rattle.walk.specs.declared.Descriptor.the-variants.{Word, Outside}
+use Rattle.walk.specs.declared.Descriptor.the-variants.{Word}
 use Rattle.walk.specs.declared.Mapping.the-variants.{Found}
 use Rattle.walk.specs.Walk.{descriptorAt, firstAddress, secondAddress, domainOf, sectionEntry, largeEntry, smallEntry, walk}
 use Rattle.walk.proofs.Finds.{Finds, by-section, by-large, by-small, finds, walk-section, walk-large, walk-small}

@@ -1,22 +1,21 @@
 -- The cases of the TLB's operations on words.
 use Prim.Native.Nat.{ℕ, _+_, _*_, _/_, _%_, _^_, _<_, _≤_}
 use native.Mathlib.Omega.{arith}
-use mathlib.Core.Bool.{Bool, true, false, cond}
-use mathlib.Core.Path.{_≡_, refl, sym, _∙_, ap}
-use mathlib.Core.List.{List, map}
+use mathlib.Core.Bool.{Bool, true, false}
+use mathlib.Core.Path.{_≡_, _∙_, ap}
+use mathlib.Core.List.{List}
 use lib.Dec.{eqb}
 use lib.ListN.{length, length-map, getD, set, drop, replicate}
-use borrow.Author.Tests.{eq-eqb, ne-eqb}
+use borrow.Author.Tests.{ne-eqb}
 use Rattle.values.specs.Tests.{firstFrom}
 use Rattle.values.specs.Empty.{emptyEntry}
 use Rattle.values.specs.declared.VirtualAddress.{VirtualAddress}
-use Rattle.values.specs.declared.PhysicalAddress.{PhysicalAddress}
 use Rattle.values.specs.declared.Entry.{Entry}
 use Rattle.values.specs.declared.Search.the-variants.{At, Nothing}
 use Rattle.values.proofs.Searches.{search-hit, search-on, search-end}
 use Rattle.values.proofs.Maps.{map-set, words-step}
 use Rattle.values.proofs.InPlace.{Upto, upto-end, map-constant}
-use Rattle.tlb.specs.Tlb.{covers, lookup, translated, apOf, quarterOf, placed, flushed, dropped, keptOf}
+use Rattle.tlb.specs.Tlb.{covers, translated, apOf, placed, flushed, dropped, keptOf}
 use Rattle.tlb.specs.Packing.{entryOf, wordOf, entriesOf}
 use Rattle.walk.specs.Ranges.{InRange}
 use Rattle.tlb.proofs.Packing.{entry-word, entry-zero, entry-at}

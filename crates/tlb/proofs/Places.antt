@@ -1,13 +1,12 @@
 -- What placement, flush and drop do to every entry.
 use Prim.Native.Nat.{ℕ, _<_}
-use native.Mathlib.Omega.{arith}
-use mathlib.Core.Bool.{Bool, true, false, cond}
+use mathlib.Core.Bool.{false}
 use mathlib.Core.Logic.{_≢_}
 use mathlib.Core.Path.{_≡_, refl, sym, _∙_, ap}
 use mathlib.Core.List.{List, map}
-use lib.ListN.{length, length-set, length-map, getD, set, getD-replicate, length-replicate, List·getD-map, List·getD-eq-default}
+use lib.ListN.{length, length-set, length-map, getD, getD-replicate, length-replicate, List·getD-map}
 use lib.Seq.{getD-set-same, getD-set-other}
-use Rattle.values.specs.Empty.{emptyEntry, noEntries}
+use Rattle.values.specs.Empty.{emptyEntry}
 use Rattle.values.specs.declared.VirtualAddress.{VirtualAddress}
 use Rattle.values.specs.declared.Entry.{Entry}
 use Rattle.values.proofs.Cases.{case}

@@ -1,7 +1,7 @@
 -- The check of a translation is that of what it maps by.
-use Prim.Native.Nat.{ℕ, _<_}
+use Prim.Native.Nat.{_<_}
 use mathlib.Core.Bool.{Bool}
-use mathlib.Core.Path.{_≡_, refl}
+use mathlib.Core.Path.{_≡_}
 use Rattle.values.specs.declared.Registers.{Registers}
 use Rattle.values.specs.declared.VirtualAddress.{VirtualAddress}
 use Rattle.walk.specs.Ranges.{InRange}

@@ -1,6 +1,6 @@
 -- What the two machines share behind translation: when an access aborts, which pages fill and buffer, and what a fault sets.
-use Prim.Native.Nat.{ℕ, _+_, _*_}
-use mathlib.Core.Bool.{Bool, true, false, cond, _&&_, _||_}
+use Prim.Native.Nat.{ℕ}
+use mathlib.Core.Bool.{Bool, cond, _&&_, _||_}
 use lib.Dec.{ltb}
 use Rattle.values.specs.Answers.{fsrOf}
 use Rattle.values.specs.Control.{mmu, dcache, writeBuffer}

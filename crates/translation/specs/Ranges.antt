@@ -1,5 +1,5 @@
 -- The ranges of a translation and of what the check of it gives. The code asks them.
-use Prim.Native.Nat.{ℕ, _<_, _%_}
+use Prim.Native.Nat.{_<_, _%_}
 use mathlib.Core.Path.{_≡_}
 use Rattle.values.specs.declared.VirtualAddress.{VirtualAddress}
 use Rattle.walk.specs.Ranges.{InRange}

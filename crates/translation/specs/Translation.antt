@@ -1,6 +1,6 @@
 -- Translation and rights: which mapping serves, and whether it lets the access pass.
-use Prim.Native.Nat.{ℕ, _+_}
-use mathlib.Core.Bool.{Bool, true, false, cond, not, _&&_, _||_}
+use Prim.Native.Nat.{ℕ}
+use mathlib.Core.Bool.{Bool, false, cond, not}
 use mathlib.Core.List.{List}
 use lib.Dec.{eqb}
 use lib.ListN.{getD}
@@ -9,7 +9,6 @@ use Rattle.values.specs.Control.{mmu, system, rom}
 use Rattle.values.specs.Empty.{emptyEntry}
 use Rattle.values.specs.declared.VirtualAddress.{VirtualAddress}
 use Rattle.values.specs.declared.Registers.{Registers}
-use Rattle.values.specs.declared.Cp15.{Cp15}
 use Rattle.values.specs.declared.Entry.{Entry}
 use Rattle.values.specs.declared.Search.{Search}
 use Rattle.values.specs.declared.Search.the-variants.{At, Nothing}

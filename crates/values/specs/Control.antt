@@ -1,6 +1,6 @@
 -- Register 1, control: its bits.
 use Prim.Native.Nat.{ℕ, _+_, _*_, _/_, _%_}
-use mathlib.Core.Bool.{Bool, true, false, not, _&&_, _||_}
+use mathlib.Core.Bool.{Bool, not, _&&_, _||_}
 use Rattle.values.specs.Tests.{bit}
 use Rattle.values.specs.declared.Registers.{Registers}
 

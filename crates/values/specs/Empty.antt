@@ -1,6 +1,5 @@
 -- Empty places: "emptied places become all zeros". "registers zero, ... pointers and counts zero".
-use Prim.Native.Nat.{ℕ}
-use mathlib.Core.Bool.{Bool, true, false}
+use mathlib.Core.Bool.{false}
 use mathlib.Core.List.{List}
 use lib.ListN.{replicate}
 use Rattle.values.specs.declared.Registers.{Registers}

@@ -1,12 +1,12 @@
 -- A walk depends on memory's length and on the words that it reads alone.
-use Prim.Native.Nat.{ℕ, _+_, _*_, _/_, _%_, _<_, _≤_}
+use Prim.Native.Nat.{ℕ, _+_, _*_, _/_, _%_}
 use native.Mathlib.Omega.{arith}
-use mathlib.Core.Bool.{Bool, true, false, cond, _||_}
+use mathlib.Core.Bool.{Bool, true, false}
 use mathlib.Core.Path.{_≡_, refl, sym, _∙_, ap, subst}
 use mathlib.Core.List.{List, [], _∷_, _++_}
 use lib.Dec.{eqb, leb}
 use lib.ListN.{length}
-use borrow.Author.Tests.{eq-eqb, eqb-true, leb-true, leb-false}
+use borrow.Author.Tests.{eq-eqb, leb-true, leb-false}
 use Rattle.values.specs.Tests.{any}
 use Rattle.values.specs.Addresses.{wordOf}
 use Rattle.values.specs.declared.VirtualAddress.{VirtualAddress}
@@ -15,7 +15,7 @@ use Rattle.values.proofs.Cases.{case, or-left, or-right}
 use Rattle.words.specs.Words.{valueAt}
 use Rattle.walk.specs.declared.Descriptor.{Descriptor}
 use Rattle.walk.specs.declared.Descriptor.the-variants.{Word, Outside}
-use Rattle.walk.specs.Walk.{descriptorAt, firstAddress, secondAddress, domainOf, sectionEntry, first, second, walk}
+use Rattle.walk.specs.Walk.{descriptorAt, firstAddress, secondAddress, domainOf, first, second, walk}
 use Rattle.walk.specs.Reads.{readAt, secondReads, wordsRead}
 use Rattle.walk.proofs.Laws.{descriptor-in, descriptor-out, walk-by}
 

@@ -1,20 +1,18 @@
 -- What a walk that found a mapping has read, and the converse.
-use Prim.Native.Nat.{ℕ, _+_, _*_, _/_, _%_, _<_, _≤_}
+use Prim.Native.Nat.{ℕ, _%_}
 use native.Mathlib.Omega.{arith}
-use mathlib.Core.Bool.{Bool, true, false, cond}
 use mathlib.Core.Path.{_≡_, refl, sym, _∙_, ap}
 use mathlib.Core.List.{List}
 use lib.Dec.{eqb}
-use borrow.Author.Tests.{eqb-true, eqb-false}
+use borrow.Author.Tests.{eqb-true}
 use Rattle.values.specs.declared.VirtualAddress.{VirtualAddress}
 use Rattle.values.specs.declared.Entry.{Entry}
 use Rattle.values.proofs.Cases.{case}
 use Rattle.walk.specs.declared.Descriptor.{Descriptor}
 use Rattle.walk.specs.declared.Descriptor.the-variants.{Word, Outside}
-use Rattle.walk.specs.declared.Mapping.{Mapping}
-use Rattle.walk.specs.declared.Mapping.the-variants.{Found, Failed}
+use Rattle.walk.specs.declared.Mapping.the-variants.{Found}
 use Rattle.walk.specs.Walk.{descriptorAt, firstAddress, secondAddress, domainOf, sectionEntry, largeEntry, smallEntry, first, second, walk}
-use Rattle.walk.proofs.Laws.{second-large, second-small, second-none, first-table, first-section, first-none, walk-by}
+use Rattle.walk.proofs.Laws.{second-large, second-small, first-table, first-section, walk-by}
 
 pub data Finds (m : List ℕ) (base : ℕ) (va : VirtualAddress) (e : Entry) : Type 0 where
   by-section : (w : ℕ) → descriptorAt m (firstAddress base va) ≡ Word w → w % 4 ≡ 2 → e ≡ sectionEntry w va → Finds m base va e

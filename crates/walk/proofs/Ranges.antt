@@ -1,7 +1,6 @@
 -- The mappings that a walk finds are in range.
-use Prim.Native.Nat.{ℕ, _*_, _/_, _%_, _<_}
+use Prim.Native.Nat.{ℕ, _<_}
 use native.Mathlib.Omega.{arith}
-use mathlib.Core.Path.{_≡_}
 use Rattle.values.specs.declared.VirtualAddress.{VirtualAddress}
 use Rattle.walk.specs.Walk.{sectionEntry, largeEntry, smallEntry}
 use Rattle.walk.specs.Ranges.{InRange}

@@ -1,5 +1,5 @@
 -- The ranges of what a walk finds, which a sound TLB has too. The code asks them of an entry.
-use Prim.Native.Nat.{ℕ, _<_, _%_}
+use Prim.Native.Nat.{_<_, _%_}
 use mathlib.Core.Path.{_≡_}
 use Rattle.values.specs.declared.Entry.{Entry}
 use Rattle.walk.specs.declared.Mapping.{Mapping}

@@ -1,6 +1,6 @@
 -- The words that a walk reads, for R4 and R6: "a word read by the plain walk", "a large page, ... that level 2 word".
-use Prim.Native.Nat.{ℕ, _+_, _*_, _/_, _%_}
-use mathlib.Core.Bool.{Bool, true, false, cond}
+use Prim.Native.Nat.{ℕ, _+_, _%_}
+use mathlib.Core.Bool.{cond}
 use mathlib.Core.List.{List, [], _∷_, _++_}
 use lib.Dec.{eqb}
 use Rattle.values.specs.Addresses.{wordOf}

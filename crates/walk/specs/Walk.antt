@@ -1,6 +1,6 @@
 -- "Translation, with M set (001, figures 2-1, 2-2)": "the walk reads memory only, never cache or buffer".
 use Prim.Native.Nat.{ℕ, _+_, _*_, _/_, _%_}
-use mathlib.Core.Bool.{Bool, true, false, cond}
+use mathlib.Core.Bool.{true, cond}
 use mathlib.Core.List.{List}
 use lib.Dec.{eqb, leb}
 use lib.ListN.{length}

@@ -1,9 +1,7 @@
 use Rattle.access.proofs.Loads.{fill-left, fills-line, fill-room}
 use Rattle.access.proofs.Laws.{in-line}
-use mathlib.Core.Path.{refl}
 use native.Mathlib.Omega.{arith}
 use denote.Ref.{now}
-use Rattle.access.specs.Code.{Lists}
 use borrow.Author.Needs.{needs}
 use Rattle.access.proofs.load_fill.Statement.{statement}
 use Rattle.access.proofs.load_fill.Tie as tie

@@ -1,7 +1,5 @@
 use Rattle.access.proofs.Loads.{hit-left}
 use Rattle.access.proofs.Laws.{in-line}
-use Rattle.access.specs.Access.{loadHit}
-use Rattle.cache.specs.Dcache.{hitLoad}
 use denote.Ref.{now}
 use borrow.Author.Needs.{needs}
 use Rattle.access.proofs.load_hit.Statement.{statement}

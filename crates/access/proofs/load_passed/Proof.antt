@@ -1,6 +1,6 @@
 use Rattle.access.specs.Code.{Lists, machineOf}
 use Rattle.access.proofs.Loads.{found-hit, found-none, find-low}
-use mathlib.Core.Path.{_≡_, refl, sym, _∙_}
+use mathlib.Core.Path.{refl, sym, _∙_}
 use denote.Ref.{now}
 use borrow.Author.Needs.{needs}
 use Rattle.access.proofs.load_passed.Statement.{statement}

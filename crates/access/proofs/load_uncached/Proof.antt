@@ -2,7 +2,6 @@ use Rattle.access.proofs.Loads.{uncached-left}
 use native.Mathlib.Omega.{arith}
 use mathlib.Core.Path.{refl}
 use Rattle.access.proofs.Laws.{in-block}
-use Rattle.access.specs.Access.{loadUncached}
 use Rattle.translation.proofs.Laws.{access-fits}
 use denote.Ref.{now}
 use borrow.Author.Needs.{needs}

@@ -1,5 +1,5 @@
 use Rattle.access.proofs.Reaches.{stores-at, loads-at}
-use mathlib.Core.Path.{_≡_, _∙_}
+use mathlib.Core.Path.{_∙_}
 use denote.Ref.{now}
 use Rattle.translation.specs.declared.Checked.the-variants.{Passed}
 use Rattle.access.specs.Code.{Lists, machineOf}

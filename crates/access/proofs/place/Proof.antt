@@ -1,4 +1,3 @@
-use mathlib.Core.Path.{sym, _∙_}
 use borrow.Author.Needs.{needs}
 use Rattle.access.proofs.place.Statement.{statement}
 use Rattle.access.proofs.place.Tie as tie

@@ -1,7 +1,5 @@
 use Rattle.access.proofs.Reaches.{translated-left, translated-rest}
 use borrow.Author.Needs.{needs}
-use Rattle.access.specs.Access.{translate, committed}
-use mathlib.Core.Path.{_≡_, refl, sym, _∙_}
 use native.Mathlib.Omega.{arith}
 use denote.Ref.{now}
 use Rattle.access.proofs.reach_mapped.Statement.{statement}

@@ -1,5 +1,5 @@
 use Rattle.access.proofs.Reaches.{ready-kept, through, denied}
-use mathlib.Core.Path.{_≡_, refl, sym, _∙_}
+use mathlib.Core.Path.{refl, sym, _∙_}
 use denote.Ref.{now}
 use Rattle.access.specs.Code.{Lists, machineOf, reachOf}
 use borrow.Author.Needs.{needs}

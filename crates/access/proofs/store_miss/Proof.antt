@@ -3,7 +3,7 @@ use mathlib.Core.Path.{_≡_, sym, _∙_}
 use mathlib.Core.Bool.{true, false}
 use Rattle.translation.specs.Faults.{buffers}
 use denote.Ref.{now}
-use Rattle.access.specs.Code.{Lists, machineOf}
+use Rattle.access.specs.Code.{machineOf}
 use borrow.Author.Needs.{needs}
 use Rattle.access.proofs.store_miss.Statement.{statement}
 use Rattle.access.proofs.store_miss.Tie as tie

@@ -1,5 +1,5 @@
 use Rattle.access.proofs.Stores.{miss-dropped, miss-faults}
-use Rattle.access.specs.Code.{Lists, machineOf}
+use Rattle.access.specs.Code.{machineOf}
 use mathlib.Core.Path.{_≡_, sym, _∙_}
 use mathlib.Core.Bool.{true, false}
 use Rattle.translation.specs.Faults.{buffers}

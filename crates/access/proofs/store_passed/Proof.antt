@@ -1,8 +1,8 @@
 use Rattle.access.proofs.Stores.{store-found, store-none}
 use Rattle.access.proofs.Loads.{find-low}
-use mathlib.Core.Path.{_≡_, refl, sym, _∙_}
+use mathlib.Core.Path.{sym, _∙_}
 use denote.Ref.{now}
-use Rattle.access.specs.Code.{Lists, machineOf}
+use Rattle.access.specs.Code.{machineOf}
 use borrow.Author.Needs.{needs}
 use Rattle.access.proofs.store_passed.Statement.{statement}
 use Rattle.access.proofs.store_passed.Tie as tie

@@ -1,5 +1,5 @@
 use Rattle.registers.specs.Refusals.{isPair}
-use mathlib.Core.Bool.{true, false, _||_}
+use mathlib.Core.Bool.{false}
 use mathlib.Core.Path.{_≡_, sym, _∙_}
 use Rattle.values.proofs.Cases.{or-left}
 use borrow.Author.Needs.{needs}

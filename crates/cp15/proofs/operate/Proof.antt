@@ -1,6 +1,6 @@
 use Rattle.cp15.proofs.Laws.{no-operation}
-use Rattle.access.specs.Code.{Lists, machineOf}
-use mathlib.Core.Path.{_≡_, refl, sym, _∙_, ap}
+use Rattle.access.specs.Code.{machineOf}
+use mathlib.Core.Path.{sym}
 use denote.Ref.{now}
 use borrow.Author.Needs.{needs}
 use Rattle.cp15.proofs.operate.Statement.{statement}

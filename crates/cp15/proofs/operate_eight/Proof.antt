@@ -1,9 +1,9 @@
 use Rattle.cp15.proofs.Laws.{eight-flush, eight-drop, eight-nothing}
-use Rattle.access.specs.Code.{Lists, machineOf}
+use Rattle.access.specs.Code.{machineOf}
 use Rattle.access.specs.Access.{withEntries}
 use Rattle.registers.specs.Refusals.{isPair}
-use mathlib.Core.Bool.{Bool, true, false, _||_}
-use mathlib.Core.Path.{_≡_, refl, sym, _∙_, ap}
+use mathlib.Core.Bool.{true, false, _||_}
+use mathlib.Core.Path.{_≡_, sym, _∙_, ap}
 use mathlib.Core.List.{List}
 use Rattle.values.specs.declared.Entry.{Entry}
 use denote.Ref.{now}

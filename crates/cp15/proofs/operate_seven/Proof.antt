@@ -1,11 +1,11 @@
 use mathlib.Core.List.{List}
 use Rattle.values.specs.declared.Line.{Line}
 use Rattle.cp15.proofs.Laws.{seven-flush, seven-line, seven-clean, seven-drain, seven-nothing}
-use Rattle.access.specs.Code.{Lists, machineOf}
+use Rattle.access.specs.Code.{machineOf}
 use Rattle.access.specs.Access.{withCache}
 use Rattle.registers.specs.Refusals.{isPair}
-use mathlib.Core.Bool.{Bool, true, false, _||_}
-use mathlib.Core.Path.{_≡_, refl, sym, _∙_, ap}
+use mathlib.Core.Bool.{true, false, _||_}
+use mathlib.Core.Path.{_≡_, sym, _∙_, ap}
 use Rattle.cache.specs.Dcache.{Dcache, allFlushed}
 use denote.Ref.{now}
 use borrow.Author.Needs.{needs}

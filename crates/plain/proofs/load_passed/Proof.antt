@@ -1,11 +1,9 @@
 use Rattle.plain.proofs.Laws.{fault-steps}
 use Rattle.translation.specs.Faults.{fills}
-use Rattle.values.specs.declared.Status.{Status}
 use Rattle.values.specs.declared.Answer.{Answer}
-use Rattle.plain.specs.Plain.{PlainStepped, plainFaulted}
-use Rattle.plain.specs.Code.{plainOf, Kept}
-use Rattle.plain.proofs.Laws.{load-in, load-fill, load-other, keep-faulted}
-use mathlib.Core.Path.{_≡_, sym, _∙_, ap, subst}
+use Rattle.plain.specs.Code.{plainOf}
+use Rattle.plain.proofs.Laws.{load-in, load-fill, load-other}
+use mathlib.Core.Path.{_≡_, sym, _∙_, ap}
 use mathlib.Core.Bool.{true, false}
 use denote.Ref.{now}
 use borrow.Author.Needs.{needs}

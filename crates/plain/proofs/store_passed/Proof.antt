@@ -1,11 +1,9 @@
 use Rattle.plain.proofs.Laws.{fault-steps}
 use Rattle.translation.specs.Faults.{buffers}
 use Rattle.translation.proofs.Laws.{access-fits}
-use Rattle.values.specs.declared.Status.{Status}
 use Rattle.values.specs.declared.Answer.the-variants.{Value}
-use Rattle.plain.specs.Plain.{PlainStepped, plainFaulted}
 use Rattle.plain.specs.Code.{plainOf, Kept}
-use Rattle.plain.proofs.Laws.{store-in, store-drop, store-other, keep-faulted, keep-stored}
+use Rattle.plain.proofs.Laws.{store-in, store-drop, store-other, keep-stored}
 use mathlib.Core.Path.{_≡_, sym, _∙_, ap, subst}
 use mathlib.Core.Bool.{true, false}
 use denote.Ref.{now}

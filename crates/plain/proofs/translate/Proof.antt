@@ -1,4 +1,3 @@
-use Rattle.translation.specs.Alignment.{cleared}
 use Rattle.plain.specs.Plain.{plainTranslate}
 use borrow.Author.Needs.{needs}
 use Rattle.plain.proofs.translate.Statement.{statement}

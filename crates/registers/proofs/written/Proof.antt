@@ -1,4 +1,3 @@
-use Rattle.values.specs.Control.{kept}
 use Rattle.registers.specs.Registers.{writtenOf}
 use borrow.Author.Tests.{ne-eqb}
 use borrow.Author.Needs.{needs}

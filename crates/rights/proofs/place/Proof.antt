@@ -1,5 +1,4 @@
-use mathlib.Core.Path.{_∙_}
-use Prim.Native.Nat.{ℕ, _*_, _/_, _%_, _^_}
+use Prim.Native.Nat.{ℕ, _*_}
 use Rattle.rights.proofs.Tables.{entry}
 use borrow.Author.Needs.{needs}
 use Rattle.rights.proofs.place.Statement.{statement}

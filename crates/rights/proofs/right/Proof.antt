@@ -1,8 +1,4 @@
 use Rattle.rights.proofs.Tables.{right-by}
-use Rattle.values.specs.Tests.{bit}
-use Rattle.rights.proofs.Tables.{bit-number}
-use mathlib.Core.Path.{ap}
-use Rattle.rights.proofs.Tables.{right-at}
 use borrow.Author.Needs.{needs}
 use Rattle.rights.proofs.right.Statement.{statement}
 use Rattle.rights.proofs.right.Tie as tie

@@ -1,6 +1,5 @@
 use Rattle.rights.specs.Rights.{rightsTable, rights}
-use mathlib.Core.Path.{refl, _∙_}
-use Prim.Native.Nat.{_*_, _/_, _%_, _^_}
+use mathlib.Core.Path.{refl}
 use Rattle.rights.proofs.table.Statement.{statement}
 use Rattle.rights.proofs.table.Tie as tie
 use Rattle.rights.proofs.table.Reads as reads

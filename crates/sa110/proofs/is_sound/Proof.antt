@@ -1,4 +1,3 @@
-use mathlib.Core.Path.{_≡_, sym, _∙_}
 use borrow.Author.Needs.{needs}
 use Rattle.sa110.proofs.is_sound.Statement.{statement}
 use Rattle.sa110.proofs.is_sound.Tie as tie

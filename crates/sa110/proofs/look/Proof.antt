@@ -1,7 +1,7 @@
 use native.Mathlib.Omega.{arith}
 use Rattle.sa110.proofs.Looks.{part-inside, look-of}
 use Rattle.sa110.specs.State.{machineIn}
-use mathlib.Core.Path.{_≡_, sym, _∙_}
+use mathlib.Core.Path.{sym, _∙_}
 use denote.Ref.{now}
 use borrow.Author.Needs.{needs}
 use Rattle.sa110.proofs.look.Statement.{statement}

@@ -1,6 +1,6 @@
 use Rattle.step.proofs.Runs.{run-as}
 use Rattle.sa110.specs.State.{machineIn}
-use mathlib.Core.Path.{_≡_, sym, _∙_}
+use mathlib.Core.Path.{sym, _∙_}
 use denote.Ref.{now}
 use borrow.Author.Needs.{needs}
 use Rattle.sa110.proofs.run.Statement.{statement}

@@ -3,10 +3,7 @@ use Rattle.access.specs.Code.{Lists}
 use denote.Ref.{now}
 use lib.ListN.{length}
 use native.Mathlib.Omega.{arith}
-use Rattle.sa110.specs.declared.SlotBytes.{SlotBytes}
-use Prim.Native.Nat.{ℕ, _<_}
-use mathlib.Core.List.{List, []}
-use mathlib.Core.Path.{_≡_, refl, sym, _∙_}
+use mathlib.Core.Path.{_≡_}
 use borrow.Author.Needs.{needs}
 use Rattle.sa110.proofs.serve.Statement.{statement}
 use Rattle.sa110.proofs.serve.Tie as tie

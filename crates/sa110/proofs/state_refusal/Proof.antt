@@ -1,6 +1,6 @@
 use Rattle.step.proofs.StateRefusals.{refused-odd, refused-long, refused-store, refused-unsound, refused-size, not-state-refused}
 use Rattle.sa110.specs.State.{machineIn}
-use mathlib.Core.Path.{_≡_, refl, sym, _∙_}
+use mathlib.Core.Path.{refl, sym, _∙_}
 use denote.Ref.{now}
 use borrow.Author.Needs.{needs}
 use Rattle.sa110.proofs.state_refusal.Statement.{statement}

@@ -1,12 +1,10 @@
-use Prim.Native.Nat.{ℕ, _-_, _≤_, _+_}
+use Prim.Native.Nat.{ℕ, _-_, _≤_}
 use native.Mathlib.Omega.{arith}
 use borrow.Author.Needs.{needs}
-use mathlib.Core.Path.{_≡_, refl, sym, _∙_, ap, subst}
-use mathlib.Core.List.{List, [], map}
-use lib.ListN.{length, length-map, getD, replicate, List·getD-map}
+use mathlib.Core.Path.{_≡_, refl, _∙_, subst}
+use lib.ListN.{length, length-map, replicate}
 use Rattle.values.proofs.Toward.{Toward, toward-start}
-use Rattle.sa110.proofs.Packs.{toward-all, unpack-step, pack-step}
-use Rattle.values.proofs.Maps.{map-set}
+use Rattle.sa110.proofs.Packs.{toward-all, unpack-step}
 use Rattle.sa110.specs.State.{bytesOf}
 use Rattle.sa110.specs.declared.SlotBytes.{SlotBytes}
 use Rattle.sa110.proofs.unpacked.Statement.{statement}

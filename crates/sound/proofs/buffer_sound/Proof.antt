@@ -1,6 +1,6 @@
 use native.Mathlib.Omega.{arith}
 use Prim.Native.Nat.{ℕ, _-_, _≤_}
-use mathlib.Core.Path.{_≡_, refl, sym, _∙_, subst}
+use mathlib.Core.Path.{_≡_, sym, _∙_, subst}
 use denote.Ref.{now}
 use borrow.Author.Needs.{needs}
 use Rattle.sound.proofs.Slots.{Held, held-none, held-on, too-many, places-held, place-bad}

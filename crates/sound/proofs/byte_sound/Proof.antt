@@ -1,10 +1,5 @@
-use native.Mathlib.Omega.{arith}
-use Prim.Native.Nat.{ℕ, _+_, _-_, _*_, _≤_}
-use mathlib.Core.Path.{_≡_, refl, sym, _∙_}
-use lib.ListN.{drop}
-use denote.Ref.{now}
-use borrow.Author.Needs.{needs}
-use Rattle.sound.specs.Soundness.{zeroOutside}
+use Prim.Native.Nat.{_-_}
+use mathlib.Core.Path.{sym}
 use Rattle.sound.proofs.Slots.{byte-masked, byte-outside}
 use Rattle.sound.proofs.byte_sound.Statement.{statement}
 use Rattle.sound.proofs.byte_sound.Tie as tie

@@ -1,7 +1,5 @@
-use native.Mathlib.Omega.{arith}
-use Prim.Native.Nat.{ℕ, _+_, _-_, _*_, _/_, _%_, _≤_}
-use mathlib.Core.Path.{_≡_, refl, sym, _∙_}
-use denote.Ref.{now}
+use Prim.Native.Nat.{_-_}
+use mathlib.Core.Path.{sym}
 use Rattle.sound.proofs.Clauses.{misses-high, hits-high, fills-high, halves-test}
 use borrow.Author.Needs.{needs}
 use Rattle.sound.proofs.counts_sound.Statement.{statement}

@@ -1,15 +1,12 @@
 use native.Mathlib.Omega.{arith}
-use Prim.Native.Nat.{ℕ, _+_, _-_, _*_, _/_, _%_, _≤_}
+use Prim.Native.Nat.{_-_, _≤_}
 use mathlib.Core.Path.{_≡_, refl, sym, _∙_}
 use denote.Ref.{now}
 use borrow.Author.Needs.{needs}
-use lib.ListN.{length, getD, drop}
-use Rattle.values.specs.Tests.{all, sum}
-use Rattle.values.specs.Empty.{emptyLine, emptyEntry}
-use Rattle.cache.specs.Dcache.{dirtyHalves}
-use Rattle.cache.specs.Packing.{lineOf, linesOf}
-use Rattle.cache.proofs.Lines.{line-zero}
-use Rattle.values.proofs.Alls.{words-no, words-on, words-end, sum-on, sum-end}
+use lib.ListN.{length, drop}
+use Rattle.values.specs.Tests.{all}
+use Rattle.values.specs.Empty.{emptyEntry}
+use Rattle.values.proofs.Alls.{words-no, words-on, words-end}
 use Rattle.tlb.specs.Packing.{entryOf, entriesOf}
 use Rattle.sound.specs.Soundness.{entrySound}
 use Rattle.tlb.proofs.Packing.{entry-zero}

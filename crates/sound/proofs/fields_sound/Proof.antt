@@ -1,7 +1,6 @@
 use native.Mathlib.Omega.{arith}
-use Prim.Native.Nat.{ℕ, _+_, _-_, _*_, _/_, _%_, _≤_}
-use mathlib.Core.Path.{_≡_, refl, sym, _∙_}
-use denote.Ref.{now}
+use Prim.Native.Nat.{_-_}
+use mathlib.Core.Path.{sym, _∙_}
 use Rattle.sound.proofs.Clauses.{size-high, range-domain, range-physical, range-virtual}
 use borrow.Author.Needs.{needs}
 use Rattle.sound.proofs.fields_sound.Statement.{statement}

@@ -1,7 +1,4 @@
-use native.Mathlib.Omega.{arith}
-use Prim.Native.Nat.{ℕ, _-_, _≤_}
-use mathlib.Core.Path.{_≡_, refl, sym, _∙_, subst}
-use denote.Ref.{now}
+use Prim.Native.Nat.{_-_}
 use borrow.Author.Needs.{needs}
 use Rattle.sound.proofs.place_sound.Statement.{statement}
 use Rattle.sound.proofs.place_sound.Tie as tie

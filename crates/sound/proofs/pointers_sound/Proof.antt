@@ -1,13 +1,12 @@
 use Rattle.sound.proofs.Clauses.{high, low}
 use native.Mathlib.Omega.{arith}
-use Prim.Native.Nat.{ℕ, _+_, _-_, _*_, _/_, _%_, _<_, _≤_}
-use mathlib.Core.Bool.{true, false}
-use mathlib.Core.Path.{_≡_, refl, sym, _∙_, ap}
+use Prim.Native.Nat.{_-_, _≤_}
+use mathlib.Core.Path.{_≡_, refl, sym, _∙_}
 use denote.Ref.{now}
 use lib.ListN.{length, getD, drop}
 use borrow.Author.Needs.{needs}
 use Rattle.values.specs.Tests.{all}
-use Rattle.sound.specs.Soundness.{pointerSound, lineSound}
+use Rattle.sound.specs.Soundness.{pointerSound}
 use Rattle.values.proofs.Alls.{all-no, all-on, all-end}
 use Rattle.sound.proofs.pointers_sound.Statement.{statement}
 use Rattle.sound.proofs.pointers_sound.Tie as tie

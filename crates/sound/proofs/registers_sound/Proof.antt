@@ -1,9 +1,6 @@
 use native.Mathlib.Omega.{arith}
-use Prim.Native.Nat.{ℕ, _+_, _-_, _*_, _≤_}
-use mathlib.Core.Path.{_≡_, refl, sym, _∙_}
-use lib.ListN.{drop}
-use denote.Ref.{now}
-use Rattle.sound.specs.Soundness.{zeroOutside}
+use Prim.Native.Nat.{_-_}
+use mathlib.Core.Path.{sym, _∙_}
 use Rattle.sound.proofs.Slots.{control-no, listed-no, base-no, fsr-test}
 use borrow.Author.Needs.{needs}
 use Rattle.sound.proofs.registers_sound.Statement.{statement}

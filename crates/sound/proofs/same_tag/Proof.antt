@@ -1,10 +1,5 @@
-use native.Mathlib.Omega.{arith}
-use Prim.Native.Nat.{ℕ, _+_, _-_, _*_, _/_, _%_, _≤_}
-use mathlib.Core.Path.{_≡_, refl, sym, _∙_}
-use mathlib.Core.Bool.{true, false}
-use lib.ListN.{getD, drop}
-use denote.Ref.{now}
-use borrow.Author.Needs.{needs}
+use Prim.Native.Nat.{_-_}
+use mathlib.Core.Path.{sym}
 use Rattle.sound.proofs.Tags.{tags-compared, first-empty, second-empty}
 use Rattle.sound.proofs.same_tag.Statement.{statement}
 use Rattle.sound.proofs.same_tag.Tie as tie

@@ -1,5 +1,4 @@
-use native.Mathlib.Omega.{arith}
-use mathlib.Core.Path.{_≡_, refl, sym, _∙_}
+use mathlib.Core.Path.{sym, _∙_}
 use Rattle.sound.proofs.Slots.{slot-outside, slot-unmasked, slot-wide, slot-bytes}
 use borrow.Author.Needs.{needs}
 use Rattle.sound.proofs.slot_sound.Statement.{statement}

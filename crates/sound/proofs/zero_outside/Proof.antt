@@ -1,8 +1,7 @@
 use native.Mathlib.Omega.{arith}
-use Prim.Native.Nat.{ℕ, _+_, _-_, _*_, _≤_}
+use Prim.Native.Nat.{_-_, _≤_}
 use mathlib.Core.Path.{_≡_, refl, sym, _∙_}
 use lib.ListN.{drop}
-use denote.Ref.{now}
 use borrow.Author.Needs.{needs}
 use Rattle.sound.specs.Soundness.{zeroOutside}
 use Rattle.sound.proofs.Slots.{outside-no, outside-on, outside-end}

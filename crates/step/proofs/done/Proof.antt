@@ -1,4 +1,4 @@
-use mathlib.Core.Path.{_≡_, _∙_}
+use mathlib.Core.Path.{_∙_}
 use denote.Ref.{now}
 use Rattle.access.specs.Code.{Lists, machineOf}
 use Rattle.access.proofs.Reaches.{clean-ready}

@@ -6,7 +6,6 @@ use mathlib.Core.Path.{sym, _∙_}
 use native.Mathlib.Omega.{arith}
 use denote.Ref.{now}
 use Rattle.access.specs.Code.{Lists}
-use lib.ListN.{length, getD}
 use Rattle.step.proofs.run_calls.Statement.{statement}
 use Rattle.step.proofs.run_calls.Tie as tie
 use Rattle.step.proofs.run_calls.Reads as reads

@@ -1,8 +1,8 @@
 use Prim.Native.Nat.{_<_}
 use Rattle.access.specs.declared.Small.{Small}
 use Rattle.step.proofs.Ready.{tlb-ready, side-ready, fits-all, control-low, refused-five, refused-by, not-refused}
-use Rattle.access.specs.Code.{Lists, machineOf, TlbReady, SideReady}
-use mathlib.Core.Path.{_≡_, refl, sym, _∙_, ap, subst}
+use Rattle.access.specs.Code.{Lists, TlbReady, SideReady}
+use mathlib.Core.Path.{sym, _∙_, subst}
 use denote.Ref.{now}
 use native.Mathlib.Omega.{arith}
 use lib.ListN.{length}

@@ -1,5 +1,5 @@
 use mathlib.Core.Path.{sym}
-use Prim.Native.Nat.{_-_, _/_}
+use Prim.Native.Nat.{_-_}
 use Rattle.tlb.specs.Tlb as spec
 use Rattle.tlb.proofs.Laws.{covers-invalid, covers-section, covers-large, covers-small}
 use borrow.Author.Needs.{needs}

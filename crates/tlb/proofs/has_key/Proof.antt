@@ -1,4 +1,4 @@
-use mathlib.Core.Path.{_≡_, sym, _∙_}
+use mathlib.Core.Path.{sym, _∙_}
 use Rattle.tlb.proofs.Keyed.{key-section, key-large, key-small, key-none}
 use borrow.Author.Needs.{needs}
 use Rattle.tlb.proofs.has_key.Statement.{statement}

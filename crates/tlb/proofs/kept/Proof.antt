@@ -1,6 +1,5 @@
 use mathlib.Core.Path.{_∙_}
-use Prim.Native.Nat.{_-_, _/_}
-use Rattle.tlb.specs.Tlb.{covers}
+use Prim.Native.Nat.{_-_}
 use Rattle.tlb.specs.Tlb as spec
 use Rattle.tlb.proofs.Packing.{entry-zero}
 use borrow.Author.Needs.{needs}

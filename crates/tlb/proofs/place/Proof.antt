@@ -1,5 +1,5 @@
 use denote.Ref.{now}
-use Prim.Native.Nat.{_-_, _/_}
+use Prim.Native.Nat.{_-_}
 use Rattle.tlb.specs.Tlb as spec
 use Rattle.tlb.proofs.Laws.{place-at}
 use borrow.Author.Needs.{needs}

@@ -1,6 +1,6 @@
 use mathlib.Core.Path.{sym}
 use native.Mathlib.Omega.{arith}
-use Prim.Native.Nat.{_-_, _/_}
+use Prim.Native.Nat.{_-_}
 use Rattle.tlb.specs.Tlb as spec
 use Rattle.tlb.proofs.Laws.{translated-section, translated-large, translated-small}
 use Rattle.tlb.proofs.translated.Statement.{statement}

@@ -1,4 +1,4 @@
-use Prim.Native.Nat.{_-_, _/_}
+use Prim.Native.Nat.{_-_}
 use Rattle.translation.specs.Alignment as aligned
 use Rattle.translation.specs.Translation as spec
 use Rattle.translation.specs.Faults as faults

@@ -1,7 +1,6 @@
 use Rattle.translation.proofs.Laws.{translated-within}
 use mathlib.Core.Path.{ap}
-use native.Mathlib.Omega.{arith}
-use Prim.Native.Nat.{_-_, _/_}
+use Prim.Native.Nat.{_-_}
 use borrow.Author.Tests.{ne-eqb}
 use Rattle.translation.specs.Alignment as aligned
 use Rattle.translation.specs.Translation as spec

@@ -1,7 +1,7 @@
 use mathlib.Core.Path.{_∙_}
 use mir.Facts.{toZ-ofZ}
 use mathlib.Core.Path.{ap}
-use Prim.Native.Nat.{_-_, _/_}
+use Prim.Native.Nat.{_-_}
 use Rattle.values.specs.declared.Answer.the-variants.{Signed}
 use Rattle.translation.specs.Alignment as aligned
 use Rattle.translation.specs.Translation as spec

@@ -1,6 +1,6 @@
 use mathlib.Core.Path.{_≡_, sym, _∙_}
 use mathlib.Core.Bool.{true, false}
-use Prim.Native.Nat.{_-_, _/_}
+use Prim.Native.Nat.{_-_}
 use Rattle.words.specs.Words.{isWidth}
 use Rattle.translation.specs.Alignment as aligned
 use Rattle.translation.specs.Translation as spec

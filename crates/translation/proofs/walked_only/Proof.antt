@@ -1,7 +1,6 @@
 use mathlib.Core.Path.{sym, _∙_, ap}
-use Prim.Native.Nat.{_-_, _/_}
+use Prim.Native.Nat.{_-_}
 use denote.Ref.{now}
-use Rattle.values.specs.Control.{mmu}
 use Rattle.translation.specs.Alignment as aligned
 use Rattle.translation.specs.Translation as spec
 use Rattle.translation.specs.Faults as faults

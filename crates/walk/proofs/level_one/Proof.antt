@@ -1,5 +1,5 @@
 use Rattle.walk.proofs.Ranges.{section-ranged}
-use mathlib.Core.Path.{sym, _∙_}
+use mathlib.Core.Path.{sym}
 use Rattle.walk.proofs.Laws.{first-table, first-section, first-none}
 use borrow.Author.Needs.{needs}
 use Rattle.walk.proofs.level_one.Statement.{statement}

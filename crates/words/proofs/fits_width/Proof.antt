@@ -1,6 +1,6 @@
 use Prim.Native.Nat.{_^_}
 use native.Mathlib.Omega.{arith}
-use mathlib.Core.Path.{sym, _∙_}
+use mathlib.Core.Path.{sym}
 use borrow.Author.Tests.{lt-ltb}
 use Rattle.words.proofs.Widths.{is-one}
 use Rattle.words.proofs.fits_width.Statement.{statement}

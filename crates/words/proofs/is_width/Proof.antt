@@ -1,4 +1,3 @@
-use mathlib.Core.Path.{_∙_}
 use borrow.Author.Tests.{ne-eqb}
 use Rattle.words.proofs.is_width.Statement.{statement}
 use Rattle.words.proofs.is_width.Tie as tie

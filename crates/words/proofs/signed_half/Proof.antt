@@ -1,5 +1,4 @@
 use native.Mathlib.Omega.{arith}
-use mathlib.Core.Path.{_∙_}
 use lib.Dec.{lit≤}
 use Rattle.words.proofs.Signs.{positive, negative}
 use borrow.Author.Needs.{needs}
