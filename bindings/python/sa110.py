@@ -8,7 +8,7 @@
     answers, plain, memory = m.plain()          # the calls made so far, on the plain machine
 
 include/sa110.h says what each function of the library does; document 01 is the authority on every meaning. What the library refuses is an answer. A
-ValueError is raised for numbers that do not fit into 32 bits and for a memory and a cache store that overlap, a TypeError for arguments of another
+ValueError is raised for numbers that do not fit into 32 bits and for a memory and a cache store that are one bytearray, a TypeError for arguments of another
 type (memory is a length, or a bytearray, whose bytes the calls change; anything else that has bytes is copied), and an OSError where the shared
 object is missing.
 """
@@ -16,6 +16,7 @@ object is missing.
 import ctypes
 import os
 from ctypes import POINTER, byref, c_size_t, c_uint8, c_uint32, c_uint64
+from operator import index
 from typing import NamedTuple, Optional
 
 STORE_BYTES = 16384
@@ -41,6 +42,31 @@ def pair(opcode2, crm):
 # Operations of register 7, and of register 8.
 CACHE_FLUSH, CACHE_FLUSH_LINE, CACHE_CLEAN_LINE, BUFFER_DRAIN = pair(0, 6), pair(1, 6), pair(1, 10), pair(4, 10)
 TLB_FLUSH, TLB_FLUSH_ENTRY = pair(0, 6), pair(1, 6)
+
+# Fault statuses, in the order in which they are tested; the second of each pair is for pages or level 2.
+ALIGNMENT = 1
+WALK_FIRST, WALK_SECOND = 12, 14
+TRANSLATION_SECTION, TRANSLATION_PAGE = 5, 7
+DOMAIN_SECTION, DOMAIN_PAGE = 9, 11
+PERMISSION_SECTION, PERMISSION_PAGE = 13, 15
+FILL_SECTION, FILL_PAGE = 4, 6
+OTHER_SECTION, OTHER_PAGE = 8, 10
+
+# Refusals, in the order in which they are tested.
+(
+    REFUSED_MEMORY,
+    REFUSED_STORE,
+    REFUSED_STATE,
+    REFUSED_LENGTH,
+    REFUSED_COUNT,
+    REFUSED_WIDTH,
+    REFUSED_VALUE,
+    REFUSED_USER,
+    REFUSED_REGISTER,
+    REFUSED_OPERATION,
+    REFUSED_BIG_ENDIAN,
+    REFUSED_CONTROL,
+) = range(1, 13)
 
 REFUSALS = {
     1: "the memory's length is not a multiple of 32 or exceeds 16,777,216",
@@ -231,6 +257,7 @@ def _lib():
 
 def _numbers(*numbers):
     """The numbers, each of 32 bits: ctypes would cut them off."""
+    numbers = tuple(index(x) for x in numbers)
     for x in numbers:
         if not 0 <= x < 1 << 32:
             raise ValueError(f"sa110: {x} does not fit into 32 bits")
@@ -352,6 +379,6 @@ def walk(memory, base, va):
     return _lib().sa110_walk(*_bytes(memory), *_numbers(base, va))
 
 
-def right(index):
+def right(i):
     """The rights table's entry: 0 allowed, 1 domain fault, 2 permission fault; 255 behind its end."""
-    return _lib().sa110_right(*_numbers(index))
+    return _lib().sa110_right(*_numbers(i))

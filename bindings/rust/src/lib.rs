@@ -68,6 +68,35 @@ pub const BUFFER_DRAIN: u32 = pair(4, 10);
 pub const TLB_FLUSH: u32 = pair(0, 6);
 pub const TLB_FLUSH_ENTRY: u32 = pair(1, 6);
 
+// Fault statuses, in the order in which they are tested.
+pub const ALIGNMENT: u32 = 1;
+pub const WALK_FIRST: u32 = 12;
+pub const WALK_SECOND: u32 = 14;
+pub const TRANSLATION_SECTION: u32 = 5;
+pub const TRANSLATION_PAGE: u32 = 7;
+pub const DOMAIN_SECTION: u32 = 9;
+pub const DOMAIN_PAGE: u32 = 11;
+pub const PERMISSION_SECTION: u32 = 13;
+pub const PERMISSION_PAGE: u32 = 15;
+pub const FILL_SECTION: u32 = 4;
+pub const FILL_PAGE: u32 = 6;
+pub const OTHER_SECTION: u32 = 8;
+pub const OTHER_PAGE: u32 = 10;
+
+// Refusals, in the order in which they are tested.
+pub const REFUSED_MEMORY: u32 = 1;
+pub const REFUSED_STORE: u32 = 2;
+pub const REFUSED_STATE: u32 = 3;
+pub const REFUSED_LENGTH: u32 = 4;
+pub const REFUSED_COUNT: u32 = 5;
+pub const REFUSED_WIDTH: u32 = 6;
+pub const REFUSED_VALUE: u32 = 7;
+pub const REFUSED_USER: u32 = 8;
+pub const REFUSED_REGISTER: u32 = 9;
+pub const REFUSED_OPERATION: u32 = 10;
+pub const REFUSED_BIG_ENDIAN: u32 = 11;
+pub const REFUSED_CONTROL: u32 = 12;
+
 /// The answer to five numbers that are no call.
 pub const NO_CALL: u64 = 3 << 32;
 
