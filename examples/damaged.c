@@ -1,7 +1,7 @@
-/* Damaged input from C: random and damaged states, wrong lengths, numbers that are no call, through the functions over a lent state and record.
+/* Damaged input from C: random and damaged states, wrong lengths, numbers that are no call.
  * Each lent thing lies against a page that cannot be read or written, or in a block of its own from malloc for valgrind to watch, so that an
- * access outside ends the program. Checked are: the answer is one of document 01's; a refused call changes nothing; a state that was sound stays
- * so; the functions by value, and a run of the list, answer and leave the same. */
+ * access outside ends the program. Checked are: a start writes the whole state and record; the answer is one of document 01's; a refused call, a
+ * look and a soundness test change nothing; a state that was sound stays so; a run of the list answers and leaves the same. */
 #define _GNU_SOURCE
 #include "sa110.h"
 #include <stdio.h>
@@ -97,9 +97,30 @@ static int same(struct machine *a, struct machine *b) {
            same_bytes(&a->store, &b->store);
 }
 
-static uint32_t sound(struct machine *m) {
-    struct sa110_state *s = state(m);
-    return sa110_sound(*cp15(m), s->counts, s->entries, 32, s->lines, 512, s->pointers, 16, s->words, 8, s->slots, 8, s->used, m->memory.length);
+static int sound(struct machine *m) {
+    struct machine before = machine_of(m);
+    uint32_t answer = sa110_sound(state(m), cp15(m), m->memory.length);
+    if (answer > 1) {
+        fail("a soundness test answers neither 1 nor 0");
+    }
+    if (!same(m, &before)) {
+        fail("a soundness test changes something");
+    }
+    drop(&before);
+    return answer == 1;
+}
+
+/* Starts, and checks the answer, the state and the record that it writes. */
+static void start(struct machine *m) {
+    static const struct sa110_cp15 zeros;
+    static struct sa110_state fresh;
+    size_t n = m->memory.length;
+    uint32_t expected = n % 32 != 0 || n > SA110_MEMORY_MAX ? 1 : m->store.length != SA110_STORE_BYTES ? 2 : 0;
+    uint32_t refusal = sa110_start(state(m), cp15(m), m->memory.at, n, m->store.at, m->store.length);
+    fresh.size = refusal ? 0 : n;
+    if (refusal != expected || !sa110_same_state(state(m), &fresh) || memcmp(cp15(m), &zeros, sizeof zeros) != 0) {
+        fail("a start answers or writes something else");
+    }
 }
 
 /* A word of a page table, level 1 or 2, for a memory of some length. */
@@ -162,17 +183,13 @@ static struct machine some_machine(void) {
         uint32_t w = descriptor(n);
         memcpy(m.memory.at + i, &w, 4);
     }
-    uint32_t refusal = sa110_start_lent(state(&m), cp15(&m), m.memory.at, n, m.store.at, m.store.length);
-    uint32_t expected = n % 32 != 0 || n > SA110_MEMORY_MAX ? 1 : m.store.length != SA110_STORE_BYTES ? 2 : 0;
-    if (refusal != expected || state(&m)->size != (refusal ? 0 : n)) {
-        fail("a start answers something else");
-    }
+    start(&m);
     for (i = 0; i < 64; i++) {
         numbers(calls + i * SA110_FIELDS);
     }
     const uint32_t first[] = {4, 1, 2, 0, 0x4000 * below(2), 4, 1, 3, 0, 0x55555555, 4, 1, 1, 0, 13 + 2 * below(2)};
     memcpy(calls, first, sizeof first);
-    sa110_run_lent(state(&m), cp15(&m), m.memory.at, n, m.store.at, m.store.length, calls, sizeof calls / sizeof *calls, answers, 3 + below(62));
+    sa110_run(state(&m), cp15(&m), m.memory.at, n, m.store.at, m.store.length, calls, sizeof calls / sizeof *calls, answers, 3 + below(62));
     return m;
 }
 
@@ -250,15 +267,12 @@ static int note(uint64_t answer, const uint32_t *c) {
 
 static uint64_t looks[3];
 
-/* Looks at an address, by both functions: what is found lies inside, and nothing changes. */
+/* Looks at an address: what is found lies inside, and nothing changes. */
 static void look(struct machine *m) {
     struct machine before = machine_of(m);
     uint32_t va = address();
-    uint64_t found = sa110_look_lent(state(m), cp15(m), m->memory.at, m->memory.length, m->store.at, m->store.length, va);
+    uint64_t found = sa110_look(state(m), cp15(m), m->memory.at, m->memory.length, m->store.at, m->store.length, va);
     uint32_t which = sa110_which(found), offset = sa110_value(found);
-    if (found != sa110_look(*state(m), *cp15(m), m->memory.at, m->memory.length, m->store.at, m->store.length, va)) {
-        fail("a look by value differs");
-    }
     if (which > SA110_OF_MEMORY || offset % SA110_LINE_BYTES != 0 || (which == SA110_NOWHERE && found != 0) ||
         (which == SA110_OF_STORE && offset >= m->store.length) || (which == SA110_OF_MEMORY && offset >= m->memory.length)) {
         fail("a look finds what is not there");
@@ -284,19 +298,11 @@ static void one_case(void) {
     memset(calls.at, 0, calls.length);
     for (i = 0; i < n; i++) {
         uint32_t *c = (uint32_t *)calls.at + i * SA110_FIELDS;
-        uint32_t was_sound = sound(&m);
+        int was_sound = sound(&m);
         numbers(c);
         look(&m);
         before = machine_of(&m);
-        struct machine other = machine_of(&m);
-        struct sa110_answered by_value = sa110_call(*state(&other), *cp15(&other), other.memory.at, other.memory.length, other.store.at,
-                                                    other.store.length, c[0], c[1], c[2], c[3], c[4]);
-        *state(&other) = by_value.state;
-        *cp15(&other) = by_value.cp15;
-        codes[i] = sa110_call_lent(state(&m), cp15(&m), m.memory.at, m.memory.length, m.store.at, m.store.length, c[0], c[1], c[2], c[3], c[4]);
-        if (codes[i] != by_value.code || !same(&m, &other)) {
-            fail("a call by value differs");
-        }
+        codes[i] = sa110_call(state(&m), cp15(&m), m.memory.at, m.memory.length, m.store.at, m.store.length, c[0], c[1], c[2], c[3], c[4]);
         if (note(codes[i], c)) {
             if (!same(&m, &before)) {
                 fail("a refused call changes something");
@@ -305,7 +311,6 @@ static void one_case(void) {
             fail("a call that is not refused had or leaves an unsound state");
         }
         drop(&before);
-        drop(&other);
         if (sa110_kind(codes[i]) == SA110_NO_CALL) {
             stop = i;
             break;
@@ -313,8 +318,8 @@ static void one_case(void) {
     }
     answers = lend((stop + below(3)) * 8);
     memset(answers.at, 0x77, answers.length);
-    size_t made = sa110_run_lent(state(&r), cp15(&r), r.memory.at, r.memory.length, r.store.at, r.store.length, (uint32_t *)calls.at,
-                                 calls.length / 4, (uint64_t *)answers.at, answers.length / 8);
+    size_t made = sa110_run(state(&r), cp15(&r), r.memory.at, r.memory.length, r.store.at, r.store.length, (uint32_t *)calls.at, calls.length / 4,
+                            (uint64_t *)answers.at, answers.length / 8);
     if (made != stop || memcmp(answers.at, codes, stop * 8) != 0 || !same(&r, &m)) {
         fail("a run differs from its calls");
     }

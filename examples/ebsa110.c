@@ -71,7 +71,7 @@ static void mcr(uint32_t n, uint32_t pair, uint32_t value) { call(SA110_WRITE, 1
 /* Makes the calls listed since the last time, and says what they came to. */
 static void make(const char *what) {
     size_t i, n = length - done, served = 0, faults = 0, refused = 0;
-    size_t made = sa110_run_lent(&state, &cp15, memory, MEMORY, store, sizeof store, list + done * SA110_FIELDS, n * SA110_FIELDS, answers + done, n);
+    size_t made = sa110_run(&state, &cp15, memory, MEMORY, store, sizeof store, list + done * SA110_FIELDS, n * SA110_FIELDS, answers + done, n);
     for (i = done; i < done + made; i++) {
         served += sa110_kind(answers[i]) == SA110_SERVED;
         faults += sa110_kind(answers[i]) == SA110_FAULT;
@@ -192,7 +192,7 @@ int main(int argc, char **argv) {
         return 2;
     }
     memory = first_memory();
-    printf("Start: refusal %u\n", sa110_start_lent(&state, &cp15, memory, MEMORY, store, sizeof store));
+    printf("Start: refusal %u\n", sa110_start(&state, &cp15, memory, MEMORY, store, sizeof store));
     mmu_init(SA110_I | SA110_C | SA110_W);
     make("MMU_init");
     plain();

@@ -39,7 +39,7 @@ static void call(uint32_t kind, uint32_t privileged, uint32_t n, uint32_t a, uin
     if (kind == SA110_WRITE && n >= SA110_CACHE) {
         sprintf(text + at, " (%u,%u)", a / 16, a % 16);
     }
-    uint64_t answer = sa110_call_lent(&state, &cp15, memory, sizeof memory, store, sizeof store, kind, privileged, n, a, v);
+    uint64_t answer = sa110_call(&state, &cp15, memory, sizeof memory, store, sizeof store, kind, privileged, n, a, v);
     printf("%-48s ", text);
     switch (sa110_kind(answer)) {
     case SA110_SERVED:
@@ -66,7 +66,7 @@ static void cache(uint32_t pair, uint32_t address) { call(SA110_WRITE, 1, SA110_
 
 /* Looks at an address, and prints where its line lies and the word there. */
 static void look(uint32_t address) {
-    uint64_t found = sa110_look_lent(&state, &cp15, memory, sizeof memory, store, sizeof store, address);
+    uint64_t found = sa110_look(&state, &cp15, memory, sizeof memory, store, sizeof store, address);
     const uint8_t *line = sa110_line(found, memory, store);
     char text[64];
     uint32_t word;
@@ -169,8 +169,8 @@ static int in_one_run(void) {
     static struct sa110_cp15 cp15_2;
     static uint8_t memory2[MEMORY], store2[SA110_STORE_BYTES];
     static uint64_t codes[CALLS];
-    uint32_t refusal = sa110_start_lent(&state2, &cp15_2, memory2, sizeof memory2, store2, sizeof store2);
-    size_t n = sa110_run_lent(&state2, &cp15_2, memory2, sizeof memory2, store2, sizeof store2, list, made * SA110_FIELDS, codes, CALLS);
+    uint32_t refusal = sa110_start(&state2, &cp15_2, memory2, sizeof memory2, store2, sizeof store2);
+    size_t n = sa110_run(&state2, &cp15_2, memory2, sizeof memory2, store2, sizeof store2, list, made * SA110_FIELDS, codes, CALLS);
     int same = refusal == 0 && n == made && memcmp(codes, answers, made * sizeof *codes) == 0 && sa110_same_state(&state2, &state) &&
                memcmp(&cp15_2, &cp15, sizeof cp15) == 0 && memcmp(memory2, memory, sizeof memory) == 0 && memcmp(store2, store, sizeof store) == 0;
     printf("The list in one run: %zu calls made; answers, state, record, memory and cache store %s\n", n, same ? "the same" : "differ");
@@ -183,7 +183,7 @@ int main(int argc, char **argv) {
                 argv[0]);
         return 2;
     }
-    uint32_t refusal = sa110_start_lent(&state, &cp15, memory, sizeof memory, store, sizeof store);
+    uint32_t refusal = sa110_start(&state, &cp15, memory, sizeof memory, store, sizeof store);
     printf("Start: refusal %u, memory %zu bytes, cache store %zu bytes\n", refusal, state.size, sizeof store);
     set_up();
     accesses();

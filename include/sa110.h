@@ -3,9 +3,9 @@
  * The authority on every meaning is document 01 ("The SA-110 data side"). The functions are proved to meet its definitions; what this header says
  * in prose is a summary. The proofs speak of the language's abstract machine: they do not cover the compiler's back end, this header, or callers.
  *
- * Link with liblent.a, liblook.a and libhost.a of target/staticlib (`rt staticlib lent` and so on write them). The library needs memcpy and memset,
- * allocates nothing, keeps nothing between calls, prints nothing and never aborts: every error is an answer. Different states may be used on
- * different threads at the same time. A call takes up to 40 KB of stack.
+ * Link with libsa110.a of target/staticlib, which tools/library writes. The library needs memcpy and memset, allocates nothing, keeps nothing
+ * between calls, prints nothing and never aborts: every error is an answer. Different states may be used on different threads at the same time. A
+ * call takes up to 40 KB of stack.
  *
  * A slice is a pointer and a length in elements. A pointer must be aligned for its type, must not be null even where the length is 0, and must
  * point to that many elements. What a call may change must not overlap anything else that is lent to that call. These are the only demands: any
@@ -84,27 +84,6 @@ struct sa110_state {
     struct sa110_slot_bytes slots[8];  /* write buffer: the bytes */
 };
 
-/* What a start by value leaves. */
-struct sa110_started {
-    struct sa110_state state;
-    struct sa110_cp15 cp15;
-    uint32_t refusal; /* 0, 1 or 2 */
-};
-
-/* What a call by value leaves. */
-struct sa110_answered {
-    struct sa110_state state;
-    struct sa110_cp15 cp15;
-    uint64_t code; /* the answer */
-};
-
-/* What a run by value leaves. */
-struct sa110_ran {
-    struct sa110_state state;
-    struct sa110_cp15 cp15;
-    size_t made; /* calls made */
-};
-
 /* What a run of the plain machine leaves beside memory and answers. */
 struct sa110_plain_ran {
     uint32_t control;
@@ -134,13 +113,6 @@ SA110_STATIC_ASSERT(offsetof(struct sa110_state, lines) == 296, "state.lines");
 SA110_STATIC_ASSERT(offsetof(struct sa110_state, pointers) == 4392, "state.pointers");
 SA110_STATIC_ASSERT(offsetof(struct sa110_state, words) == 4456, "state.words");
 SA110_STATIC_ASSERT(offsetof(struct sa110_state, slots) == 4520, "state.slots");
-SA110_STATIC_ASSERT(sizeof(struct sa110_started) == 4680, "started");
-SA110_STATIC_ASSERT(offsetof(struct sa110_started, cp15) == 4648, "started.cp15");
-SA110_STATIC_ASSERT(offsetof(struct sa110_started, refusal) == 4672, "started.refusal");
-SA110_STATIC_ASSERT(sizeof(struct sa110_answered) == 4680, "answered");
-SA110_STATIC_ASSERT(offsetof(struct sa110_answered, code) == 4672, "answered.code");
-SA110_STATIC_ASSERT(sizeof(struct sa110_ran) == 4680, "ran");
-SA110_STATIC_ASSERT(offsetof(struct sa110_ran, made) == 4672, "ran.made");
 SA110_STATIC_ASSERT(sizeof(struct sa110_plain_ran) == 40, "plain_ran");
 SA110_STATIC_ASSERT(offsetof(struct sa110_plain_ran, refusal) == 24, "plain_ran.refusal");
 SA110_STATIC_ASSERT(offsetof(struct sa110_plain_ran, made) == 32, "plain_ran.made");
@@ -265,33 +237,31 @@ enum {
     SA110_REFUSED_CONTROL = 12     /* a control write gives a combination of M, C and W that is not valid */
 };
 
-/* ---- Functions over a lent state and record ----
- *
- * These are the ones to use; those by value, below, copy the state in and out. */
+/* ---- The library, over a lent state and record ---- */
 
 /* Starts: writes a fresh state (the memory's length, all else zero) and a record of zeros, and gives 0. Refused, it gives 1 or 2 and writes a state
  * and a record of zeros. What was in them before does not matter. Memory and cache store may hold any bytes, and stay as they are. */
-uint32_t sa110_start_lent(struct sa110_state *state, struct sa110_cp15 *cp15, const uint8_t *memory, size_t memory_length, const uint8_t *store,
-                          size_t store_length);
+uint32_t sa110_start(struct sa110_state *state, struct sa110_cp15 *cp15, const uint8_t *memory, size_t memory_length, const uint8_t *store,
+                     size_t store_length);
 
 /* Makes one call of five numbers and gives its answer. A served call and a fault change state, record, memory and cache store as document 01
  * says; a refused call, and numbers that are no call, change nothing. Each call tests the whole state for refusal 3, which takes a microsecond or
  * two; a run tests it once. */
-uint64_t sa110_call_lent(struct sa110_state *state, struct sa110_cp15 *cp15, uint8_t *memory, size_t memory_length, uint8_t *store,
-                         size_t store_length, uint32_t kind, uint32_t privileged, uint32_t n, uint32_t a, uint32_t v);
+uint64_t sa110_call(struct sa110_state *state, struct sa110_cp15 *cp15, uint8_t *memory, size_t memory_length, uint8_t *store,
+                    size_t store_length, uint32_t kind, uint32_t privileged, uint32_t n, uint32_t a, uint32_t v);
 
 /* Makes a list of calls, five numbers each, and gives how many it made: the smaller of calls_length / 5 and answers_length, but it stops at the
  * first five numbers that are no call. The answer to call i stands in answers[i]; those behind the calls made are as they were. Everything
- * is as after sa110_call_lent for each call in turn: refused calls are made and answered, too. Lengths count elements, not bytes. */
-size_t sa110_run_lent(struct sa110_state *state, struct sa110_cp15 *cp15, uint8_t *memory, size_t memory_length, uint8_t *store,
-                      size_t store_length, const uint32_t *calls, size_t calls_length, uint64_t *answers, size_t answers_length);
+ * is as after sa110_call for each call in turn: refused calls are made and answered, too. Lengths count elements, not bytes. */
+size_t sa110_run(struct sa110_state *state, struct sa110_cp15 *cp15, uint8_t *memory, size_t memory_length, uint8_t *store, size_t store_length,
+                 const uint32_t *calls, size_t calls_length, uint64_t *answers, size_t answers_length);
 
 /* Shows where the 32 bytes of a virtual address's line are to be read, without a call: in the cache store if the Dcache holds the line, else in
  * memory, by a walk past the TLB or flat. The result is which * 2^32 + offset: sa110_which gives SA110_OF_STORE, SA110_OF_MEMORY or SA110_NOWHERE,
  * sa110_value the offset of the line's first byte, and sa110_line its address or null. Nowhere means that a refusal 1 to 4 holds, the walk
  * faults, or the line lies outside memory. Rights are not checked, bytes in the write buffer are not shown, and nothing changes. */
-uint64_t sa110_look_lent(const struct sa110_state *state, const struct sa110_cp15 *cp15, const uint8_t *memory, size_t memory_length,
-                         const uint8_t *store, size_t store_length, uint32_t va);
+uint64_t sa110_look(const struct sa110_state *state, const struct sa110_cp15 *cp15, const uint8_t *memory, size_t memory_length,
+                    const uint8_t *store, size_t store_length, uint32_t va);
 
 enum {
     SA110_NOWHERE = 0,
@@ -306,23 +276,20 @@ static inline const uint8_t *sa110_line(uint64_t look, const uint8_t *memory, co
                                                   : NULL;
 }
 
+/* Tests a state and a record for a memory of n bytes, as refusal 3 does: 1 sound, 0 unsound. Nothing changes. */
+uint32_t sa110_sound(const struct sa110_state *state, const struct sa110_cp15 *cp15, size_t n);
+
 /* ---- The plain machine ---- */
 
-/* Makes a list of calls, in the form of sa110_run_lent, on the plain machine: memory and the five registers, all zero at the start, without TLB,
+/* Makes a list of calls, in the form of sa110_run, on the plain machine: memory and the five registers, all zero at the start, without TLB,
  * Dcache and write buffer. Stores are in memory at once; writes of registers 7 and 8 do nothing. For a list that keeps document 01's rules R1 to
- * R6 the answers are those of sa110_run_lent from a start, and after a clean of each line stored to and a drain so is memory, byte for byte: this
+ * R6 the answers are those of sa110_run from a start, and after a clean of each line stored to and a drain so is memory, byte for byte: this
  * is proved (term 3). Whether a list keeps the rules, compare's program counts tells, by the second model, which is tested and not proved. A memory
  * whose length does not fit gives refusal 1, with no call made. */
 struct sa110_plain_ran sa110_plain_run(uint8_t *memory, size_t memory_length, const uint32_t *calls, size_t calls_length, uint64_t *answers,
                                        size_t answers_length);
 
 /* ---- Parts ---- */
-
-/* Tests the parts of a state for a memory of n bytes, as refusal 3 does: 1 sound, 0 unsound, 2 where a list does not have its length (entries 32,
- * lines 512, pointers 16, words 8, slots 8). The parts are those of sa110_state. */
-uint32_t sa110_sound(struct sa110_cp15 cp15, struct sa110_counts counts, const uint64_t *entries, size_t entries_length, const uint64_t *lines,
-                     size_t lines_length, const uint32_t *pointers, size_t pointers_length, const uint64_t *words, size_t words_length,
-                     const struct sa110_slot_bytes *slots, size_t slots_length, size_t used, size_t n);
 
 /* Walks the page tables in a memory of any length for a virtual address, by the table base's bits 31 to 14. An odd result is the mapping found,
  * in the form of sa110_state.entries; an even one is 2 * (domain * 16 + status) of the fault. Rights are not checked, and nothing changes. */
@@ -331,23 +298,6 @@ uint64_t sa110_walk(const uint8_t *memory, size_t memory_length, uint32_t base, 
 /* Gives an entry of the rights table: 0 allowed, 1 domain fault, 2 permission fault; 255 for an index above 255. The index is
  * domain value * 64 + AP * 16 + S * 8 + R * 4 + privileged * 2 + store. */
 uint8_t sa110_right(uint32_t index);
-
-/* ---- The same functions by value ---- */
-
-/* As sa110_start_lent, with state and record in the result. */
-struct sa110_started sa110_start(const uint8_t *memory, size_t memory_length, const uint8_t *store, size_t store_length);
-
-/* As sa110_call_lent: state and record go in by value and come back in the result. */
-struct sa110_answered sa110_call(struct sa110_state state, struct sa110_cp15 cp15, uint8_t *memory, size_t memory_length, uint8_t *store,
-                                 size_t store_length, uint32_t kind, uint32_t privileged, uint32_t n, uint32_t a, uint32_t v);
-
-/* As sa110_run_lent: state and record go in by value and come back in the result. */
-struct sa110_ran sa110_run(struct sa110_state state, struct sa110_cp15 cp15, uint8_t *memory, size_t memory_length, uint8_t *store,
-                           size_t store_length, const uint32_t *calls, size_t calls_length, uint64_t *answers, size_t answers_length);
-
-/* As sa110_look_lent, with state and record by value. */
-uint64_t sa110_look(struct sa110_state state, struct sa110_cp15 cp15, const uint8_t *memory, size_t memory_length, const uint8_t *store,
-                    size_t store_length, uint32_t va);
 
 #ifdef __cplusplus
 }

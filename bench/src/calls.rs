@@ -1,15 +1,17 @@
 //! `run` over lists of calls, and `call` on full caches.
 
-use crate::measure::Line;
+use crate::earlier::Earlier;
+use crate::measure::{Line, Side};
 use sa110_compare::full::{full, is_full, Tags, TAGS};
 use sa110_compare::numbers;
-use sa110_compare::side_by_side::{Setting, Sides};
+use sa110_compare::side_by_side::{Numbers, Setting, Sides};
 use sa110_model::cache::address_of;
-use sa110_model::calls::FIELDS;
 use sa110_model::library::run;
 use sa110_model::random::Rng;
 use sa110_model::{words, Answer, Call, Machine};
+use std::cell::RefCell;
 use std::hint::black_box;
+use std::rc::Rc;
 
 pub const WHAT: &str = "\
 run: one run over a list of 4,096 calls again and again, from where the run before it ended
@@ -43,30 +45,46 @@ const PRIVILEGED_PAGE: u32 = PAGED + PAGE_COUNT * 0x1000;
 const DATA: u32 = 0x10000;
 const MEMORY: u32 = DATA + (PAGE_COUNT + 1) * 0x1000;
 
-pub fn lines() -> Vec<Line> {
+pub fn lines(earlier: Option<Earlier>) -> Vec<Line> {
     let rng = &mut Rng::new(1);
-    let mut lines = vec![
-        hits(rng),
-        page_hits(rng),
-        random(rng),
-        buffered_stores(rng),
-        merges(rng),
-        mixed(rng),
-    ];
-    lines.extend(TAGS.map(|tags| call_line(rng, tags)));
+    let lists = [hits, page_hits, random, buffered_stores, merges, mixed];
+    let lists = lists.iter().map(|of| run_line(of(rng), earlier));
+    let mut lines: Vec<_> = lists.collect();
+    lines.extend(TAGS.map(|tags| call_line(rng, tags, earlier)));
     lines
 }
 
+/// A list of calls, and the machine that they are made on.
+struct List {
+    name: &'static str,
+    machine: Machine,
+    calls: Vec<Call>,
+}
+
+/// The first calls that `push` gives, on this machine.
+fn list(name: &'static str, machine: Machine, mut push: impl FnMut(&mut Vec<Call>)) -> List {
+    let mut calls = Vec::new();
+    while calls.len() < RUN {
+        push(&mut calls);
+    }
+    calls.truncate(RUN);
+    List {
+        name,
+        machine,
+        calls,
+    }
+}
+
 /// Loads and stores that hit one line.
-fn hits(rng: &mut Rng) -> Line {
+fn hits(rng: &mut Rng) -> List {
     let machine = served(&[Call::load(4, CACHED + DATA)]);
-    run_line("run, hits", machine, |list| {
-        list.push(access(rng, CACHED + DATA))
+    list("run, hits", machine, |calls| {
+        calls.push(access(rng, CACHED + DATA))
     })
 }
 
 /// Loads and stores that hit 512 lines in 32 pages.
-fn page_hits(rng: &mut Rng) -> Line {
+fn page_hits(rng: &mut Rng) -> List {
     let held: Vec<_> = (0..512)
         .map(|i| PAGED + i / 16 * 0x1000 + i % 16 * 32)
         .collect();
@@ -75,49 +93,49 @@ fn page_hits(rng: &mut Rng) -> Line {
     let state = &machine.state;
     assert!(state.tlb.iter().all(|entry| entry.valid == 1));
     assert!(state.cache.lines.iter().all(|line| line.valid == 1));
-    run_line("run, page hits", machine, |list| {
+    list("run, page hits", machine, |calls| {
         let line = rng.pick(&held);
-        list.push(access(rng, line))
+        calls.push(access(rng, line))
     })
 }
 
 /// Loads of any line of 64 pages, half of them with a store to the line behind.
-fn random(rng: &mut Rng) -> Line {
-    run_line("run, random", served(&[]), |list| {
+fn random(rng: &mut Rng) -> List {
+    list("run, random", served(&[]), |calls| {
         let line = PAGED + rng.below(PAGE_COUNT * 128) * 32;
-        list.push(Call::load(4, line + rng.below(8) * 4));
+        calls.push(Call::load(4, line + rng.below(8) * 4));
         if rng.percent(50) {
-            list.push(store(rng, line));
+            calls.push(store(rng, line));
         }
     })
 }
 
 /// Stores to any block of uncached memory.
-fn buffered_stores(rng: &mut Rng) -> Line {
-    run_line("run, buffered stores", served(&[]), |list| {
+fn buffered_stores(rng: &mut Rng) -> List {
+    list("run, buffered stores", served(&[]), |calls| {
         let line = BUFFERED + DATA + rng.below(2048) * 32;
-        list.push(store(rng, line))
+        calls.push(store(rng, line))
     })
 }
 
 /// Stores to one block of uncached memory, each of which joins the newest entry.
-fn merges(rng: &mut Rng) -> Line {
+fn merges(rng: &mut Rng) -> List {
     let others = (0..8).map(|i| Call::store(4, BUFFERED + DATA + 16 * i, i));
     let machine = served(&others.collect::<Vec<_>>());
-    run_line("run, merges", machine, |list| {
+    list("run, merges", machine, |calls| {
         let width = rng.pick(&[1, 2, 4]);
         let address = BUFFERED + DATA + 16 * 7 + rng.below(16) / width * width;
-        list.push(Call::store(width, address, value(rng, width)))
+        calls.push(Call::store(width, address, value(rng, width)))
     })
 }
 
 /// Of 100 calls about 75 accesses that are served, 15 CP15 calls, 10 faults.
-fn mixed(rng: &mut Rng) -> Line {
-    run_line("run, mixed", served(&[]), |list| {
+fn mixed(rng: &mut Rng) -> List {
+    list("run, mixed", served(&[]), |calls| {
         let hot = PAGED + rng.below(8) * 0x1000 + rng.below(16) * 32;
         let far = PAGED + rng.below(PAGE_COUNT * 128) * 32;
         let flat = DATA + rng.below(2048) * 32;
-        list.push(match rng.below(100) {
+        calls.push(match rng.below(100) {
             0..=49 => access(rng, hot),
             50..=59 => access(rng, far),
             60..=66 => access(rng, BUFFERED + flat),
@@ -191,56 +209,87 @@ fn served(calls: &[Call]) -> Machine {
     machine
 }
 
-/// A line of `run` over the calls that `push` gives, from this machine on.
-fn run_line(name: &str, machine: Machine, mut push: impl FnMut(&mut Vec<Call>)) -> Line {
-    let mut list = Vec::new();
-    while list.len() < RUN {
-        push(&mut list);
-    }
-    list.truncate(RUN);
-    let calls = numbers(&list);
+/// A line of `run` over a list.
+fn run_line(list: List, earlier: Option<Earlier>) -> Line {
+    let (name, calls) = (list.name, Rc::new(numbers(&list.calls)));
     let mut answers = vec![0; RUN];
     // library and model agree, and begin behind the first run
-    let mut sides = Sides::of(&Setting::of(&machine));
+    let before = Setting::of(&list.machine);
+    let mut sides = Sides::of(&before);
     assert_eq!(sides.run(&calls, &mut answers), Ok(RUN), "{name}");
     assert_eq!(sides.bytes(), Ok(()), "{name}");
-    let (mut proved, mut model) = (sides.proved, sides.model);
-    let (proved_calls, mut proved_answers) = (calls.clone(), answers.clone());
+    if let Some(earlier) = earlier {
+        agrees(earlier, before, &calls, (&sides.proved, &answers), name);
+    }
+    let lent = Rc::new(RefCell::new((sides.proved, answers)));
     Line {
         name: name.to_string(),
         calls: RUN,
-        library: Box::new(move |turns| {
-            for _ in 0..turns {
-                let (calls, answers) = (black_box(&proved_calls), &mut proved_answers);
-                let p = &mut proved;
-                let made = p.packed.run(&mut p.memory, &mut p.store, calls, answers);
-                assert_eq!(made, RUN);
-                black_box(answers);
-            }
-            assert!(proved.packed.state.counts.calls < u32::MAX);
+        library: run_side(&lent, &calls, |s, calls, answers| {
+            s.packed.run(&mut s.memory, &mut s.store, calls, answers)
         }),
-        model: Box::new(move |turns| {
-            for _ in 0..turns {
-                let m = &mut model;
-                let ran = run(
-                    &mut m.state,
-                    &mut m.registers,
-                    &mut m.memory,
-                    &mut m.store,
-                    black_box(&calls),
-                    &mut answers,
-                );
-                assert_eq!(ran, Ok(()));
-                black_box(&mut answers);
-            }
-            assert!(model.state.counts.calls < u32::MAX);
+        earlier: earlier.map(|earlier| {
+            run_side(&lent, &calls, move |s, calls, answers| {
+                earlier.run(s, calls, answers)
+            })
         }),
+        model: model_side(sides.model, calls),
     }
 }
 
+/// The model's runs of the calls.
+fn model_side(mut model: Machine, calls: Rc<Vec<u32>>) -> Side {
+    let mut answers = vec![0; RUN];
+    Box::new(move |turns| {
+        for _ in 0..turns {
+            let m = &mut model;
+            let ran = run(
+                &mut m.state,
+                &mut m.registers,
+                &mut m.memory,
+                &mut m.store,
+                black_box(&calls),
+                &mut answers,
+            );
+            assert_eq!(ran, Ok(()));
+            black_box(&mut answers);
+        }
+        assert!(model.state.counts.calls < u32::MAX);
+    })
+}
+
+/// The earlier library answers and leaves what the library does.
+fn agrees(earlier: Earlier, mut s: Setting, calls: &[u32], left: (&Setting, &[u64]), name: &str) {
+    let mut answers = vec![0; RUN];
+    assert_eq!(earlier.run(&mut s, calls, &mut answers), RUN, "{name}");
+    let same = answers == left.1
+        && s.packed == left.0.packed
+        && s.memory == left.0.memory
+        && s.store == left.0.store;
+    assert!(same, "{name}: the earlier library differs");
+}
+
+/// A library's runs of the calls. Both libraries have the same setting and answers lent.
+fn run_side(
+    lent: &Rc<RefCell<(Setting, Vec<u64>)>>,
+    calls: &Rc<Vec<u32>>,
+    run: impl Fn(&mut Setting, &[u32], &mut [u64]) -> usize + 'static,
+) -> Side {
+    let (lent, calls) = (Rc::clone(lent), Rc::clone(calls));
+    Box::new(move |turns| {
+        let (setting, answers) = &mut *lent.borrow_mut();
+        for _ in 0..turns {
+            let made = run(setting, black_box(&calls), answers);
+            assert_eq!(made, RUN);
+            black_box(&mut *answers);
+        }
+        assert!(setting.packed.state.counts.calls < u32::MAX);
+    })
+}
+
 /// A line of `call` on a full cache: loads and stores that hit.
-fn call_line(rng: &mut Rng, tags: Tags) -> Line {
-    let machine = full(rng, tags);
+fn call_line(rng: &mut Rng, tags: Tags, earlier: Option<Earlier>) -> Line {
+    let mut machine = full(rng, tags);
     let name = match tags {
         Tags::InARow => "call, in a row",
         Tags::Random => "call, random",
@@ -253,27 +302,43 @@ fn call_line(rng: &mut Rng, tags: Tags) -> Line {
             access(rng, line)
         })
         .collect();
-    let list: Vec<[u32; FIELDS]> = calls.iter().map(Call::to_numbers).collect();
-    let (mut proved, mut model) = (Setting::of(&machine), machine);
+    let list: Rc<Vec<_>> = Rc::new(calls.iter().map(Call::to_numbers).collect());
+    let lent = Rc::new(RefCell::new(Setting::of(&machine)));
     Line {
         name: name.to_string(),
         calls: CALL,
-        library: Box::new(move |turns| {
-            for _ in 0..turns {
-                for numbers in black_box(&list) {
-                    let p = &mut proved;
-                    black_box(p.packed.call(&mut p.memory, &mut p.store, numbers));
-                }
-            }
-            assert!(proved.packed.state.counts.hits as usize >= turns * CALL);
+        library: call_side(&lent, &list, |s, numbers| {
+            s.packed.call(&mut s.memory, &mut s.store, numbers)
         }),
+        earlier: earlier
+            .map(|earlier| call_side(&lent, &list, move |s, numbers| earlier.call(s, numbers))),
         model: Box::new(move |turns| {
             for _ in 0..turns {
                 for call in black_box(&calls) {
-                    black_box(model.call(call));
+                    black_box(machine.call(call));
                 }
             }
-            assert!(is_full(&model) && model.state.counts.calls < u32::MAX);
+            assert!(is_full(&machine) && machine.state.counts.calls < u32::MAX);
         }),
     }
+}
+
+/// A library's calls, one by one. Both libraries have the same setting lent.
+fn call_side(
+    lent: &Rc<RefCell<Setting>>,
+    list: &Rc<Vec<Numbers>>,
+    call: impl Fn(&mut Setting, &Numbers) -> u64 + 'static,
+) -> Side {
+    let (lent, list) = (Rc::clone(lent), Rc::clone(list));
+    Box::new(move |turns| {
+        let setting = &mut *lent.borrow_mut();
+        let before = setting.packed.state.counts.hits as usize;
+        for _ in 0..turns {
+            for numbers in black_box(&*list) {
+                black_box(call(setting, numbers));
+            }
+        }
+        let hits = setting.packed.state.counts.hits as usize - before;
+        assert_eq!(hits, turns * CALL);
+    })
 }

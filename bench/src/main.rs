@@ -1,21 +1,27 @@
-//! Prints a table of times: the proved library beside the second model, measured in turn in one process.
+//! Prints a table of times: the proved library beside the second model and, where one is named, an earlier library, measured in turn in one
+//! process.
 
 mod calls;
+mod earlier;
 mod measure;
 mod soundness;
 
-use measure::{measure, Line};
+use earlier::Earlier;
+use measure::{measure, Line, Measured};
 
 const ROUNDS: usize = 1000;
 
 const HOW: &str = "\
-use: cargo run --release --offline [-- ROUNDS]
-  ROUNDS  how often each side is measured, at least 1; 1000 if left out
-`rt staticlib host` writes the library that is measured.";
+use: cargo run --release --offline [-- ROUNDS [EARLIER.so]]
+  ROUNDS      how often each side is measured, at least 1; 1000 if left out
+  EARLIER.so  a shared object of an earlier library, which is measured too
+tools/library writes the library that is measured. A static library becomes a shared object by
+  gcc -shared -o EARLIER.so -Wl,--whole-archive libsa110.a -Wl,--no-whole-archive";
 
 const WHAT: &str = "\
 library: the proved library, called through its functions for C. model: the second model, in Rust.
-ns a call: processor time of the one thread, least of the rounds (median). ratio: library / model, by the least.
+earlier: the library in the shared object, where one is named, lent the same state; - where it has no such function.
+ns a call: processor time of the one thread, least of the rounds (median). ratio: library / model and library / earlier, by the least.
 soundness: the test of refusal 3 on one sound state again and again, 512 lines, 32 TLB entries, 8 buffer entries, 64 KB of memory; the library
   compares all tags of a set, four at a time, wherever the lines lie, and the model two only if they agree in their low six bits
   in a row: the lines are 16 KB in a row; no two tags of a set agree in their low six bits
@@ -24,32 +30,61 @@ soundness: the test of refusal 3 on one sound state again and again, 512 lines, 
   half empty: as random, every second line empty; the library tests empty lines in a pass of their own";
 
 fn main() {
-    let Some(rounds) = rounds(std::env::args().skip(1)) else {
-        eprintln!("{HOW}");
-        std::process::exit(2);
+    let (rounds, earlier) = match asked(std::env::args().skip(1)) {
+        Ok(asked) => asked,
+        Err(wrong) => {
+            eprintln!("{wrong}{HOW}");
+            std::process::exit(2);
+        }
     };
     let mut lines: Vec<Line> = Vec::new();
-    lines.extend(soundness::lines());
-    lines.extend(calls::lines());
+    lines.extend(soundness::lines(earlier));
+    lines.extend(calls::lines(earlier));
     println!("{WHAT}\n{}", calls::WHAT);
-    println!("{rounds} rounds, library and model in turn\n");
-    println!(
+    println!("{rounds} rounds, each side in turn\n");
+    print!(
         "{:<28}{:>18}{:>18}{:>8}",
         "ns a call", "library", "model", "ratio"
     );
+    match earlier {
+        Some(_) => println!("{:>18}{:>8}", "earlier", "ratio"),
+        None => println!(),
+    }
     for line in &mut lines {
-        let (library, model) = measure(line, rounds);
-        let ratio = library.least / model.least;
-        let (library, model) = (library.to_string(), model.to_string());
-        println!("{:<28}{library:>18}{model:>18}{ratio:>8.2}", line.name);
+        let measured = measure(line, rounds);
+        println!("{}", row(&line.name, &measured, earlier.is_some()));
     }
 }
 
-/// The number of rounds that the arguments ask for.
-fn rounds(mut arguments: impl Iterator<Item = String>) -> Option<usize> {
-    let Some(first) = arguments.next() else {
-        return Some(ROUNDS);
+/// A row of the table, with the columns of an earlier library where one is named.
+fn row(name: &str, measured: &Measured, named: bool) -> String {
+    let (library, model) = (measured.library, measured.model);
+    let ratio = library.least / model.least;
+    let (shown, model) = (library.to_string(), model.to_string());
+    let row = format!("{name:<28}{shown:>18}{model:>18}{ratio:>8.2}");
+    match measured.earlier {
+        Some(earlier) => {
+            let ratio = library.least / earlier.least;
+            format!("{row}{:>18}{ratio:>8.3}", earlier.to_string())
+        }
+        None if named => format!("{row}{:>18}{:>8}", "-", "-"),
+        None => row,
+    }
+}
+
+/// The number of rounds and the earlier library that the arguments ask for, or what is wrong with them.
+fn asked(mut arguments: impl Iterator<Item = String>) -> Result<(usize, Option<Earlier>), String> {
+    let rounds = match arguments.next() {
+        None => ROUNDS,
+        Some(first) => match first.parse() {
+            Ok(rounds) if rounds > 0 => rounds,
+            _ => return Err(String::new()),
+        },
     };
-    let rounds = first.parse().ok().filter(|rounds| *rounds > 0)?;
-    arguments.next().is_none().then_some(rounds)
+    let earlier = arguments.next().map(|path| Earlier::open(&path));
+    if arguments.next().is_some() {
+        return Err(String::new());
+    }
+    let earlier = earlier.transpose().map_err(|wrong| wrong + "\n")?;
+    Ok((rounds, earlier))
 }

@@ -1,16 +1,25 @@
-//! Two sides measured in turn.
+//! Sides measured in turn.
 
 use std::fmt;
 
 /// One side of a line: takes so many turns.
 pub type Side = Box<dyn FnMut(usize)>;
 
-/// A line of the table: what is measured, by the library and by the model. A turn makes `calls` calls.
+/// A line of the table: what is measured, by the library, by the model and, where it can, by an earlier
+/// library. A turn makes `calls` calls.
 pub struct Line {
     pub name: String,
     pub calls: usize,
     pub library: Side,
     pub model: Side,
+    pub earlier: Option<Side>,
+}
+
+/// The times of a line.
+pub struct Measured {
+    pub library: Times,
+    pub model: Times,
+    pub earlier: Option<Times>,
 }
 
 /// Nanoseconds a call.
@@ -54,23 +63,29 @@ fn nanoseconds() -> u64 {
     time.seconds as u64 * 1_000_000_000 + time.nanoseconds as u64
 }
 
-/// Measures library and model, one round each in turn; each goes first in every second round.
-pub fn measure(line: &mut Line, rounds: usize) -> (Times, Times) {
-    let library_turns = turns_a_round(&mut line.library);
-    let model_turns = turns_a_round(&mut line.model);
-    let mut library = Vec::with_capacity(rounds);
-    let mut model = Vec::with_capacity(rounds);
+/// Measures the sides, one round each in turn; each goes first as often as the others.
+pub fn measure(line: &mut Line, rounds: usize) -> Measured {
+    let mut sides = vec![&mut line.library, &mut line.model];
+    sides.extend(&mut line.earlier);
+    let n = sides.len();
+    let mut turns: Vec<_> = sides.iter_mut().map(|side| turns_a_round(side)).collect();
+    // both libraries take as many turns
+    if n == 3 {
+        turns[2] = turns[0];
+    }
+    let mut taken = vec![Vec::with_capacity(rounds); n];
     for round in 0..rounds {
-        if round % 2 == 0 {
-            library.push(round_of(&mut line.library, library_turns));
-            model.push(round_of(&mut line.model, model_turns));
-        } else {
-            model.push(round_of(&mut line.model, model_turns));
-            library.push(round_of(&mut line.library, library_turns));
+        for i in (0..n).map(|i| (round + i) % n) {
+            taken[i].push(round_of(sides[i], turns[i]));
         }
     }
     let calls = line.calls as f64;
-    (times(library, calls), times(model, calls))
+    let mut taken = taken.into_iter().map(|turns| times(turns, calls));
+    Measured {
+        library: taken.next().expect("a library"),
+        model: taken.next().expect("a model"),
+        earlier: taken.next(),
+    }
 }
 
 /// How many turns take as long as a round, after some that warm up.

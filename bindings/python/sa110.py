@@ -1,4 +1,4 @@
-"""The SA-110 data side for Python, over the shared object that tools/hosts makes of the static libraries.
+"""The SA-110 data side for Python, over the shared object that tools/hosts makes of the static library.
 
     import sa110                                # with bindings/python on PYTHONPATH
     m = sa110.Machine(0x40000)                  # memory of 256 KB, all zeros; memory may also be a bytearray, which is lent
@@ -230,17 +230,12 @@ def load_library(path=None):
     calls = [POINTER(c_uint32), c_size_t, POINTER(c_uint64), c_size_t]
     lent = [POINTER(State), POINTER(Cp15)] + memory + memory
     functions = {
-        "sa110_start_lent": (c_uint32, lent),
-        "sa110_call_lent": (c_uint64, lent + [c_uint32] * 5),
-        "sa110_run_lent": (c_size_t, lent + calls),
-        "sa110_look_lent": (c_uint64, lent + [c_uint32]),
+        "sa110_start": (c_uint32, lent),
+        "sa110_call": (c_uint64, lent + [c_uint32] * 5),
+        "sa110_run": (c_size_t, lent + calls),
+        "sa110_look": (c_uint64, lent + [c_uint32]),
         "sa110_plain_run": (PlainRan, memory + calls),
-        "sa110_sound": (
-            c_uint32,
-            [Cp15, CountsStruct]
-            + [POINTER(c_uint64), c_size_t] * 2
-            + [POINTER(c_uint32), c_size_t, POINTER(c_uint64), c_size_t, POINTER(SlotBytes), c_size_t, c_size_t, c_size_t],
-        ),
+        "sa110_sound": (c_uint32, [POINTER(State), POINTER(Cp15), c_size_t]),
         "sa110_walk": (c_uint64, memory + [c_uint32, c_uint32]),
         "sa110_right": (c_uint8, [c_uint32]),
     }
@@ -289,7 +284,7 @@ class Machine:
         self.first_memory = bytes(self.memory)
         self.state, self.cp15 = State(), Cp15()
         self.calls, self.answers = [], []
-        self.refusal = _lib().sa110_start_lent(*self._lent())
+        self.refusal = _lib().sa110_start(*self._lent())
 
     def _lent(self):
         return byref(self.state), byref(self.cp15), *_bytes(self.memory), *_bytes(self.cache_store)
@@ -297,7 +292,7 @@ class Machine:
     def call(self, kind, privileged, n, a, v):
         """Makes a call of five numbers and gives its answer; numbers that are no call are not kept in `calls`."""
         numbers = _numbers(kind, privileged, n, a, v)
-        answer = Answer(_lib().sa110_call_lent(*self._lent(), *numbers))
+        answer = Answer(_lib().sa110_call(*self._lent(), *numbers))
         if answer.kind != "no call":
             self.calls.append(numbers)
             self.answers.append(answer)
@@ -324,7 +319,7 @@ class Machine:
         """Makes a list of calls in one run and gives the answers of those made: it stops at numbers that are no call."""
         calls = [tuple(call) for call in calls]
         answers = (c_uint64 * len(calls))()
-        made = _lib().sa110_run_lent(*self._lent(), *_list(calls), answers, len(calls))
+        made = _lib().sa110_run(*self._lent(), *_list(calls), answers, len(calls))
         self.calls += calls[:made]
         self.answers += [Answer(x) for x in answers[:made]]
         return self.answers[len(self.answers) - made :]
@@ -332,7 +327,7 @@ class Machine:
     def look(self, address):
         """Where the line of a virtual address is to be read, which is no call: 'cache store', 'memory' or 'nowhere', the offset of the line's first
         byte, and its 32 bytes or None."""
-        found = _lib().sa110_look_lent(*self._lent(), *_numbers(address))
+        found = _lib().sa110_look(*self._lent(), *_numbers(address))
         place, offset = found >> 32, found & 0xFFFFFFFF
         if place == 0:
             return Look("nowhere", 0, None)
@@ -347,9 +342,7 @@ class Machine:
 
     def sound(self):
         """Whether the state is sound for the memory."""
-        s = self.state
-        parts = (s.entries, 32, s.lines, 512, s.pointers, 16, s.words, 8, s.slots, 8)
-        return _lib().sa110_sound(self.cp15, s.counts, *parts, s.used, len(self.memory)) == 1
+        return _lib().sa110_sound(byref(self.state), byref(self.cp15), len(self.memory)) == 1
 
     @property
     def counts(self):

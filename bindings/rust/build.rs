@@ -1,4 +1,4 @@
-//! Links the static libraries that `rt staticlib` writes for host, lent and look, out of the folder that SA110_LIBRARIES names, or target/staticlib.
+//! Links libsa110.a, which tools/library writes, out of the folder that SA110_LIBRARIES names, or target/staticlib.
 
 fn main() {
     let root = std::env::var("CARGO_MANIFEST_DIR").expect("cargo sets it");
@@ -6,8 +6,6 @@ fn main() {
         .unwrap_or_else(|_| format!("{root}/../../target/staticlib"));
     println!("cargo:rerun-if-env-changed=SA110_LIBRARIES");
     println!("cargo:rustc-link-search=native={folder}");
-    for name in ["lent", "look", "host"] {
-        println!("cargo:rustc-link-lib=static={name}");
-        println!("cargo:rerun-if-changed={folder}/lib{name}.a");
-    }
+    println!("cargo:rustc-link-lib=static=sa110");
+    println!("cargo:rerun-if-changed={folder}/libsa110.a");
 }

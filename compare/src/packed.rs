@@ -4,7 +4,7 @@ use sa110_model::state::BLOCK_BYTES;
 use sa110_model::state::{self, Line, PlainRegisters, Registers, Slot, TlbEntry};
 
 pub use sa110::Machine as Packed;
-pub use sa110::{sound, Counts, Cp15, Lent, State};
+pub use sa110::{Counts, Cp15, State};
 
 /// A TLB entry: bit 0 valid, 1 C, 2 B, 3 to 7 size, 8 to 15 domain, 16 to 23 AP0 to AP3, 24 to 43
 /// the physical base and 44 to 63 the virtual base, both divided by 4096. Here as in the words below,

@@ -36,8 +36,6 @@ impl Setting {
     /// What a start leaves, refused or not. Both sides' starts are compared.
     pub fn start(memory: Vec<u8>, store: Vec<u8>) -> Setting {
         let (packed, refusal) = Packed::start(&memory, &store);
-        let by_value = Packed::start_by_value(&memory, &store);
-        assert_eq!((&packed, refusal), (&by_value.0, by_value.1));
         let started = library::start(&memory, &store);
         let lengths = format!(
             "start, memory {} bytes, store {} bytes",
@@ -79,19 +77,11 @@ impl Sides {
         }
     }
 
-    /// A call on both sides; gives the answer's code, or what differs. Where count and numbers add up to
-    /// an even number, it goes through the function over a lent state, else through the one by value.
+    /// A call on both sides; gives the answer's code, or what differs.
     pub fn call<T: Watch>(&mut self, numbers: &Numbers, watch: &mut T) -> Result<u64, String> {
         let before = self.proved.packed.clone();
         let p = &mut self.proved;
-        let odd = numbers
-            .iter()
-            .fold(before.state.counts.calls, |odd, n| odd ^ n);
-        let code = if odd % 2 == 0 {
-            p.packed.call(&mut p.memory, &mut p.store, numbers)
-        } else {
-            p.packed.call_by_value(&mut p.memory, &mut p.store, numbers)
-        };
+        let code = p.packed.call(&mut p.memory, &mut p.store, numbers);
         let (expected, left) = match Call::from_numbers(numbers) {
             None => (NO_CALL, before),
             Some(call) => {
@@ -114,19 +104,13 @@ impl Sides {
     }
 
     /// A run on both sides, of as many calls as both lists hold; gives how many were made, or what
-    /// differs. Where the number of calls is even, it goes through the function over a lent state, else
-    /// through the one by value.
+    /// differs.
     pub fn run(&mut self, calls: &[u32], answers: &mut [u64]) -> Result<usize, String> {
         let n = (calls.len() / FIELDS).min(answers.len());
         let mut expected = answers.to_vec();
         let before = self.proved.packed.clone();
         let p = &mut self.proved;
-        let made = if n % 2 == 0 {
-            p.packed.run(&mut p.memory, &mut p.store, calls, answers)
-        } else {
-            p.packed
-                .run_by_value(&mut p.memory, &mut p.store, calls, answers)
-        };
+        let made = p.packed.run(&mut p.memory, &mut p.store, calls, answers);
         let m = &mut self.model;
         let refused = refusals::of_lent(&m.state, &m.registers, m.memory.len(), m.store.len());
         let ran = library::run(
@@ -158,15 +142,10 @@ impl Sides {
         }
     }
 
-    /// A look on both sides; gives what it finds, or what differs. At an even address it goes through the
-    /// function over a lent state, else through the one by value.
+    /// A look on both sides; gives what it finds, or what differs.
     pub fn look(&self, va: u32) -> Result<Look, String> {
         let (p, m) = (&self.proved, &self.model);
-        let found = if va.is_multiple_of(2) {
-            p.packed.look(&p.memory, &p.store, va)
-        } else {
-            p.packed.look_by_value(&p.memory, &p.store, va)
-        };
+        let found = p.packed.look(&p.memory, &p.store, va);
         let expected = place(m.look(va), &m.memory, &m.store);
         if found != expected {
             return Err(format!(

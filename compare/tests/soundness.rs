@@ -2,7 +2,7 @@
 
 use sa110_compare::damage::{flip_bit, replace_word};
 use sa110_compare::full::{full, is_full, TAGS};
-use sa110_compare::packed::{sound, Lent, OfModel, Packed};
+use sa110_compare::packed::{OfModel, Packed};
 use sa110_model::coverage::Unwatched;
 use sa110_model::random::damage::DAMAGES;
 use sa110_model::random::guided::{free, guided};
@@ -40,12 +40,12 @@ impl Tally {
     /// Compares the two on packed words and memory of n bytes; `what` says what the state is.
     fn compare(&mut self, packed: &Packed, n: usize, what: &dyn Fn() -> String) {
         let (state, registers) = packed.unpacked();
-        let proved = sound(&packed.lent(), n);
+        let proved = packed.is_sound(n);
         if is_sound(&state, &registers, n as u32) {
             self.sound += 1;
             assert!(
-                proved == 1,
-                "proved {proved}, model 1; memory {n} bytes; {}",
+                proved,
+                "proved unsound, model sound; memory {n} bytes; {}",
                 what()
             );
             return;
@@ -53,8 +53,8 @@ impl Tally {
         self.unsound += 1;
         let broken = broken_clauses(&state, &registers, n as u32);
         assert!(
-            proved == 0,
-            "proved {proved}, model 0 by {broken:?}; memory {n} bytes; {}",
+            !proved,
+            "proved sound, model unsound by {broken:?}; memory {n} bytes; {}",
             what()
         );
         if let [clause] = broken[..] {
@@ -195,85 +195,4 @@ fn states_sound_and_damaged() {
         }
     }
     assert!(tally.alone.iter().all(|count| *count > 0));
-}
-
-/// A list of another length is answered by 2, sound or not.
-#[test]
-fn lists_of_other_lengths() {
-    let machine = full(&mut Rng::new(1), TAGS[0]);
-    let packed = packed_whole(&machine).expect("sound");
-    let n = machine.memory.len();
-    let fits = packed.lent();
-    assert_eq!(sound(&fits, n), 1);
-    let long = [0; 513];
-    let short = [0; 17];
-    let bytes = [[0; 16]; 9];
-    for length in 0..=513 {
-        let answer = |lent: Lent| sound(&lent, n);
-        let list = &long[..length];
-        if length != 32 {
-            assert_eq!(
-                answer(Lent {
-                    entries: list,
-                    ..fits
-                }),
-                2,
-                "{length} entries"
-            );
-        }
-        if length != 512 {
-            assert_eq!(
-                answer(Lent {
-                    lines: list,
-                    ..fits
-                }),
-                2,
-                "{length} lines"
-            );
-        }
-        if length != 8 {
-            assert_eq!(
-                answer(Lent {
-                    words: list,
-                    ..fits
-                }),
-                2,
-                "{length} words"
-            );
-        }
-        if length != 16 && length <= 17 {
-            assert_eq!(
-                answer(Lent {
-                    pointers: &short[..length],
-                    ..fits
-                }),
-                2,
-                "{length} pointers"
-            );
-        }
-        if length != 8 && length <= 9 {
-            assert_eq!(
-                answer(Lent {
-                    bytes: &bytes[..length],
-                    ..fits
-                }),
-                2,
-                "{length} places of bytes"
-            );
-        }
-    }
-    // 2 goes before 0
-    let mut unsound = fits;
-    unsound.cp15.pointer = 32;
-    assert_eq!(sound(&unsound, n), 0);
-    assert_eq!(
-        sound(
-            &Lent {
-                lines: &[],
-                ..unsound
-            },
-            n
-        ),
-        2
-    );
 }

@@ -1,9 +1,6 @@
 //! The SA-110 data side for Rust: safe functions over the static library. include/sa110.h says what
 //! each function does; document 01 is the authority on every meaning. Every error is an answer, and
 //! nothing panics.
-//!
-//! `Machine::start`, `call`, `run` and `look` go through the functions over a lent state and record,
-//! those `_by_value` through the others; both answer the same.
 
 use std::mem::{offset_of, size_of};
 
@@ -197,7 +194,6 @@ pub struct State {
 }
 
 /// A state and its record.
-#[repr(C)]
 #[derive(Clone, Debug, PartialEq, Eq)]
 pub struct Machine {
     pub state: State,
@@ -218,38 +214,18 @@ pub struct PlainRan {
     pub made: usize,
 }
 
-#[repr(C)]
-struct Started {
-    left: Machine,
-    refusal: u32,
-}
-
-#[repr(C)]
-struct Answered {
-    left: Machine,
-    code: u64,
-}
-
-#[repr(C)]
-struct Ran {
-    left: Machine,
-    made: usize,
-}
-
 // The layout that include/sa110.h states.
 const _: () = {
     assert!(size_of::<Cp15>() == 24 && size_of::<Counts>() == 20);
     assert!(size_of::<State>() == 4648 && offset_of!(State, used) == 32);
     assert!(offset_of!(State, entries) == 40 && offset_of!(State, lines) == 296);
     assert!(offset_of!(State, pointers) == 4392 && offset_of!(State, words) == 4456);
-    assert!(offset_of!(State, bytes) == 4520 && offset_of!(Machine, cp15) == 4648);
-    assert!(offset_of!(Started, refusal) == 4672 && size_of::<Started>() == 4680);
-    assert!(offset_of!(Answered, code) == 4672 && offset_of!(Ran, made) == 4672);
+    assert!(offset_of!(State, bytes) == 4520);
     assert!(size_of::<PlainRan>() == 40 && offset_of!(PlainRan, made) == 32);
 };
 
 extern "C" {
-    fn sa110_start_lent(
+    fn sa110_start(
         state: *mut State,
         cp15: *mut Cp15,
         memory: *const u8,
@@ -257,7 +233,7 @@ extern "C" {
         store: *const u8,
         store_length: usize,
     ) -> u32;
-    fn sa110_call_lent(
+    fn sa110_call(
         state: *mut State,
         cp15: *mut Cp15,
         memory: *mut u8,
@@ -270,7 +246,7 @@ extern "C" {
         a: u32,
         v: u32,
     ) -> u64;
-    fn sa110_run_lent(
+    fn sa110_run(
         state: *mut State,
         cp15: *mut Cp15,
         memory: *mut u8,
@@ -282,7 +258,7 @@ extern "C" {
         answers: *mut u64,
         answers_length: usize,
     ) -> usize;
-    fn sa110_look_lent(
+    fn sa110_look(
         state: *const State,
         cp15: *const Cp15,
         memory: *const u8,
@@ -291,62 +267,7 @@ extern "C" {
         store_length: usize,
         va: u32,
     ) -> u64;
-    fn sa110_look(
-        state: State,
-        cp15: Cp15,
-        memory: *const u8,
-        memory_length: usize,
-        store: *const u8,
-        store_length: usize,
-        va: u32,
-    ) -> u64;
-    fn sa110_start(
-        memory: *const u8,
-        memory_length: usize,
-        store: *const u8,
-        store_length: usize,
-    ) -> Started;
-    fn sa110_call(
-        state: State,
-        cp15: Cp15,
-        memory: *mut u8,
-        memory_length: usize,
-        store: *mut u8,
-        store_length: usize,
-        kind: u32,
-        privileged: u32,
-        n: u32,
-        a: u32,
-        v: u32,
-    ) -> Answered;
-    fn sa110_run(
-        state: State,
-        cp15: Cp15,
-        memory: *mut u8,
-        memory_length: usize,
-        store: *mut u8,
-        store_length: usize,
-        calls: *const u32,
-        calls_length: usize,
-        answers: *mut u64,
-        answers_length: usize,
-    ) -> Ran;
-    fn sa110_sound(
-        cp15: Cp15,
-        counts: Counts,
-        entries: *const u64,
-        entries_length: usize,
-        lines: *const u64,
-        lines_length: usize,
-        pointers: *const u32,
-        pointers_length: usize,
-        words: *const u64,
-        words_length: usize,
-        bytes: *const [u8; BLOCK_BYTES],
-        bytes_length: usize,
-        used: usize,
-        n: usize,
-    ) -> u32;
+    fn sa110_sound(state: *const State, cp15: *const Cp15, n: usize) -> u32;
     fn sa110_right(index: u32) -> u8;
     fn sa110_walk(memory: *const u8, length: usize, base: u32, va: u32) -> u64;
     fn sa110_plain_run(
@@ -392,7 +313,7 @@ impl Machine {
     pub fn start(memory: &[u8], store: &[u8]) -> (Machine, u32) {
         let mut left = Machine::ZERO;
         let refusal = unsafe {
-            sa110_start_lent(
+            sa110_start(
                 &mut left.state,
                 &mut left.cp15,
                 memory.as_ptr(),
@@ -409,7 +330,7 @@ impl Machine {
     pub fn call(&mut self, memory: &mut [u8], store: &mut [u8], numbers: &Numbers) -> u64 {
         let [kind, privileged, n, a, v] = *numbers;
         unsafe {
-            sa110_call_lent(
+            sa110_call(
                 &mut self.state,
                 &mut self.cp15,
                 memory.as_mut_ptr(),
@@ -435,7 +356,7 @@ impl Machine {
         answers: &mut [u64],
     ) -> usize {
         unsafe {
-            sa110_run_lent(
+            sa110_run(
                 &mut self.state,
                 &mut self.cp15,
                 memory.as_mut_ptr(),
@@ -453,7 +374,7 @@ impl Machine {
     /// Where the line of a virtual address is to be read; no call.
     pub fn look(&self, memory: &[u8], store: &[u8], va: u32) -> Look {
         Look::of(unsafe {
-            sa110_look_lent(
+            sa110_look(
                 &self.state,
                 &self.cp15,
                 memory.as_ptr(),
@@ -465,126 +386,10 @@ impl Machine {
         })
     }
 
-    /// `look` by the function that takes state and record by value.
-    pub fn look_by_value(&self, memory: &[u8], store: &[u8], va: u32) -> Look {
-        Look::of(unsafe {
-            sa110_look(
-                self.state.clone(),
-                self.cp15,
-                memory.as_ptr(),
-                memory.len(),
-                store.as_ptr(),
-                store.len(),
-                va,
-            )
-        })
-    }
-
-    /// `start` by the function that gives state and record by value.
-    pub fn start_by_value(memory: &[u8], store: &[u8]) -> (Machine, u32) {
-        let started =
-            unsafe { sa110_start(memory.as_ptr(), memory.len(), store.as_ptr(), store.len()) };
-        (started.left, started.refusal)
-    }
-
-    /// `call` by the function that takes state and record by value.
+    /// Whether state and record are sound for a memory of n bytes, as refusal 3 tests them.
     #[inline]
-    pub fn call_by_value(&mut self, memory: &mut [u8], store: &mut [u8], numbers: &Numbers) -> u64 {
-        let [kind, privileged, n, a, v] = *numbers;
-        let answered = unsafe {
-            sa110_call(
-                self.state.clone(),
-                self.cp15,
-                memory.as_mut_ptr(),
-                memory.len(),
-                store.as_mut_ptr(),
-                store.len(),
-                kind,
-                privileged,
-                n,
-                a,
-                v,
-            )
-        };
-        *self = answered.left;
-        answered.code
-    }
-
-    /// `run` by the function that takes state and record by value.
-    #[inline]
-    pub fn run_by_value(
-        &mut self,
-        memory: &mut [u8],
-        store: &mut [u8],
-        calls: &[u32],
-        answers: &mut [u64],
-    ) -> usize {
-        let ran = unsafe {
-            sa110_run(
-                self.state.clone(),
-                self.cp15,
-                memory.as_mut_ptr(),
-                memory.len(),
-                store.as_mut_ptr(),
-                store.len(),
-                calls.as_ptr(),
-                calls.len(),
-                answers.as_mut_ptr(),
-                answers.len(),
-            )
-        };
-        *self = ran.left;
-        ran.made
-    }
-
-    pub fn lent(&self) -> Lent<'_> {
-        let state = &self.state;
-        Lent {
-            cp15: self.cp15,
-            counts: state.counts,
-            entries: &state.entries,
-            lines: &state.lines,
-            pointers: &state.pointers,
-            words: &state.words,
-            bytes: &state.bytes,
-            used: state.used,
-        }
-    }
-}
-
-/// What a state is lent as to `sound`. The lists may have any lengths.
-#[derive(Clone, Copy, Debug, PartialEq, Eq)]
-pub struct Lent<'a> {
-    pub cp15: Cp15,
-    pub counts: Counts,
-    pub entries: &'a [u64],
-    pub lines: &'a [u64],
-    pub pointers: &'a [u32],
-    pub words: &'a [u64],
-    pub bytes: &'a [[u8; BLOCK_BYTES]],
-    pub used: usize,
-}
-
-/// The soundness of a state for a memory of n bytes: 1 sound, 0 unsound, 2 where a list does not fit.
-#[inline]
-pub fn sound(lent: &Lent, n: usize) -> u32 {
-    unsafe {
-        sa110_sound(
-            lent.cp15,
-            lent.counts,
-            lent.entries.as_ptr(),
-            lent.entries.len(),
-            lent.lines.as_ptr(),
-            lent.lines.len(),
-            lent.pointers.as_ptr(),
-            lent.pointers.len(),
-            lent.words.as_ptr(),
-            lent.words.len(),
-            lent.bytes.as_ptr(),
-            lent.bytes.len(),
-            lent.used,
-            n,
-        )
+    pub fn is_sound(&self, n: usize) -> bool {
+        unsafe { sa110_sound(&self.state, &self.cp15, n) == 1 }
     }
 }
 

@@ -1,4 +1,2 @@
 pub mod Laws
-pub mod Reaches
-pub mod Loads
-pub mod Stores
+pub mod ByKind

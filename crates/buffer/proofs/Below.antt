@@ -12,12 +12,14 @@ use lib.ListN.{length, length-append, getD, take, drop, replicate, take-append-d
 use lib.Pow.{shr-shr}
 use lib.Seq.{getD-set-same, getD-set-other, set-split, drop-drop, drop-append-le, append-snoc}
 use borrow.Author.Tests.{eqb-true, eqb-false}
-use Rattle.values.specs.Tests.{bit}
+use Rattle.values.specs.Bits.{bit}
 use Rattle.values.specs.Empty.{emptySlot}
 use Rattle.values.specs.declared.Slot.{Slot}
 use Rattle.values.proofs.Cases.{case}
 use Rattle.buffer.specs.Buffer.{Backing, masks, laidOne, laid, oldestLeft, leaving, drained, behind}
 use Rattle.buffer.proofs.Laying.{length-laid-one, length-laid}
+use Rattle.buffer.specs.Buffer.{backingFrom}
+use Rattle.buffer.specs.Buffer.{bufferFrom}
 
 -- the byte p under entries, oldest first, over the byte x: the newest that masks it holds it
 unfoldable pub over : List Slot → ℕ → ℕ → ℕ
@@ -126,8 +128,8 @@ over-empties (suc n) p x =
 -- ---- "the oldest leaving changes it nowhere"
 
 pub oldest-below : (m : List ℕ) (s : Slot) (ss : List Slot) (used p : ℕ) → length (s .bytes) ≡ 16 → s .block * 16 + 16 ≤ length m
-    → below (oldestLeft (record { memory = m; buffer = record { slots = s ∷ ss; used = used } })) p
-    ≡ below (record { memory = m; buffer = record { slots = s ∷ ss; used = used } }) p
+    → below (oldestLeft (backingFrom m (bufferFrom (s ∷ ss) used))) p
+    ≡ below (backingFrom m (bufferFrom (s ∷ ss) used)) p
 unfolding oldestLeft over
 oldest-below m s ss used p n h =
     over-append ss (emptySlot ∷ []) p (getD (laid m (s .block * 16) (s .mask) (s .bytes)) p 0)
@@ -174,7 +176,7 @@ good-append (suc n) long [] r g = absurd g
 good-append (suc n) long (s ∷ ss) r g = (g .0, g .1, good-append n long ss r (g .2))
 
 abbrev pub with-slots : List ℕ → List Slot → ℕ → Backing
-with-slots m l used = record { memory = m; buffer = record { slots = l; used = used } }
+with-slots m l used = (backingFrom m (bufferFrom l used))
 
 pub leaving-below : (n : ℕ) (m : List ℕ) (l : List Slot) (used p : ℕ) → Good n (length m) l
     → below (leaving n (with-slots m l used)) p ≡ below (with-slots m l used) p

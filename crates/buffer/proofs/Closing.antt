@@ -17,6 +17,7 @@ use Rattle.buffer.specs.Packing.{slotOf, slotsOf, backingOf}
 use Rattle.buffer.specs.Ranges.{Fits, Left}
 use Rattle.buffer.proofs.Slots.{slot-at, slots-set, slots-drop, slots-append}
 use Rattle.buffer.proofs.Laying.{length-laid}
+use Rattle.buffer.specs.Buffer.{bufferFrom}
 
 -- ---- a list whose elements behind the first move one place forward
 
@@ -69,12 +70,12 @@ module _ (m ws : List ℕ) (bs : List (List ℕ)) (used : ℕ) (f : Fits m ws bs
   word-behind i h = List·getD-append (drop 1 ws) (0 ∷ []) 0 i (omega (arith, long-words)) ∙ getD-drop 1 ws i 0
 
   pub oldest-left : 0 < used → (m′ : List ℕ) (w : ℕ) (b : List ℕ) → w ≡ getD ws 0 0 → b ≡ getD bs 0 (replicate 16 0)
-      → m′ ≡ laid m (w / 4294967296 * 16) (w % 4294967296) b
+      → m′ ≡ laid m (w / 0x100000000 * 16) (w % 0x100000000) b
       → Left m′ (drop 1 ws ++ (0 ∷ [])) (drop 1 bs ++ (replicate 16 0 ∷ [])) (used - 1) (oldestLeft (backingOf m ws bs used))
   unfolding oldestLeft closed-words closed-bytes
   oldest-left h m′ w b ew eb em =
       let s : getD (slotsOf ws bs) 0 emptySlot ≡ slotOf w b = slot-at ws bs 0 same-long ∙ rw (ew, eb) in
-      let n : length m′ ≡ length m = ap length em ∙ length-laid b m (w / 4294967296 * 16) (w % 4294967296) in
+      let n : length m′ ≡ length m = ap length em ∙ length-laid b m (w / 0x100000000 * 16) (w % 0x100000000) in
       record {
         same = rw (s, closed-slots, em);
         fits = record {
@@ -87,7 +88,7 @@ module _ (m ws : List ℕ) (bs : List (List ℕ)) (used : ℕ) (f : Fits m ws bs
 
   -- ---- a new entry
 
-  pub entered : (w : ℕ) (b : List ℕ) → used < 8 → w / 4294967296 * 16 + 16 ≤ length m
+  pub entered : (w : ℕ) (b : List ℕ) → used < 8 → w / 0x100000000 * 16 + 16 ≤ length m
       → Left m (set ws used w) (set bs used b) (used + 1) (behind (backingOf m ws bs used) (slotOf w b))
   unfolding behind
   entered w b h k =
@@ -107,14 +108,14 @@ module _ (m ws : List ℕ) (bs : List (List ℕ)) (used : ℕ) (f : Fits m ws bs
       below : (i : ℕ) → i < used + 1 → (i ≡ used → ⊥) → i < used
       below i l e = omega arith
 
-  pub pushed-in : (w : ℕ) (b : List ℕ) → used < 8 → w / 4294967296 * 16 + 16 ≤ length m
+  pub pushed-in : (w : ℕ) (b : List ℕ) → used < 8 → w / 0x100000000 * 16 + 16 ≤ length m
       → Left m (set ws used w) (set bs used b) (used + 1) (pushed (backingOf m ws bs used) (slotOf w b))
   unfolding pushed
   pushed-in w b h k = rw (lt-ltb used 8 h) (entered w b h k)
 
 -- the buffer is full: the oldest has left, and the entry goes to the last place
 pub pushed-full : (m ws : List ℕ) (bs : List (List ℕ)) (used : ℕ) → used ≤ 8 → 8 ≤ used → (m′ ws′ : List ℕ) (bs′ : List (List ℕ))
-    → Left m′ ws′ bs′ (used - 1) (oldestLeft (backingOf m ws bs used)) → (w : ℕ) (b : List ℕ) → w / 4294967296 * 16 + 16 ≤ length m′
+    → Left m′ ws′ bs′ (used - 1) (oldestLeft (backingOf m ws bs used)) → (w : ℕ) (b : List ℕ) → w / 0x100000000 * 16 + 16 ≤ length m′
     → Left m′ (set ws′ 7 w) (set bs′ 7 b) 8 (pushed (backingOf m ws bs used) (slotOf w b))
 unfolding pushed
 pushed-full m ws bs used l h m′ ws′ bs′ o w b k =
@@ -141,12 +142,12 @@ module _ (b₀ : Backing) (n : ℕ) where
 -- ---- before a read
 
 module _ (m ws : List ℕ) (bs : List (List ℕ)) (used a n : ℕ) where
-  pub ready-drained : holds (record { slots = slotsOf ws bs; used = used }) a n ≡ true → (m′ ws′ : List ℕ) (bs′ : List (List ℕ)) (used′ : ℕ)
+  pub ready-drained : holds (bufferFrom (slotsOf ws bs) used) a n ≡ true → (m′ ws′ : List ℕ) (bs′ : List (List ℕ)) (used′ : ℕ)
       → Left m′ ws′ bs′ used′ (drained (backingOf m ws bs used)) → Left m′ ws′ bs′ used′ (ready (backingOf m ws bs used) a n)
   unfolding ready
   ready-drained h m′ ws′ bs′ used′ l = rw h l
 
-  pub ready-kept : holds (record { slots = slotsOf ws bs; used = used }) a n ≡ false → Fits m ws bs used
+  pub ready-kept : holds (bufferFrom (slotsOf ws bs) used) a n ≡ false → Fits m ws bs used
       → Left m ws bs used (ready (backingOf m ws bs used) a n)
   unfolding ready
   ready-kept h f = rw h (record { same = refl; fits = f })

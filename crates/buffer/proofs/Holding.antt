@@ -1,5 +1,5 @@
 -- The steps of the test whether an entry masks a byte of what is read, and the masks of accesses.
-use Prim.Native.Nat.{ℕ, _+_, _-_, _*_, _%_, _^_, _<_, _≤_}
+use Prim.Native.Nat.{ℕ, _+_, _*_, _%_, _^_, _<_, _≤_}
 use native.Mathlib.Omega.{arith}
 use native.Mathlib.Nat.{mul-le-mul-left}
 use mathlib.Core.Bool.{true, false}
@@ -8,7 +8,7 @@ use mathlib.Core.List.{List}
 use lib.ListN.{length, getD, take, drop, replicate}
 use lib.Pow.{pow-mono}
 use lib.Seq.{getD-take, length-take-le}
-use Rattle.values.specs.Tests.{any}
+use Rattle.values.specs.Lists.{any}
 use Rattle.values.specs.Empty.{emptySlot}
 use Rattle.values.specs.declared.Slot.{Slot}
 use Rattle.values.proofs.Anys.{any-hit, any-on, any-end}
@@ -38,7 +38,7 @@ module _ (n a : ℕ) (ws : List ℕ) (bs : List (List ℕ)) (used : ℕ) (lw : l
   hold-end h = any-end (meets n a) entries emptySlot i (rw long h)
 
 -- a mask's shift by its place in the block loses nothing, and leaves 16 bits
-pub shifted : (c o k : ℕ) → 2 ^ o ≤ k → c * k < 65536 → (c * 2 ^ o % 2 ^ 64 ≡ c * 2 ^ o) × (c * 2 ^ o % 2 ^ 64 < 65536)
+pub shifted : (c o k : ℕ) → 2 ^ o ≤ k → c * k < 0x10000 → (c * 2 ^ o % 2 ^ 64 ≡ c * 2 ^ o) × (c * 2 ^ o % 2 ^ 64 < 0x10000)
 shifted c o k h b =
     let q : c * 2 ^ o ≤ c * k = mul-le-mul-left c h in
     let e : c * 2 ^ o % 2 ^ 64 ≡ c * 2 ^ o = omega arith in

@@ -1,5 +1,5 @@
 -- A store that joins an entry, or takes a new one.
-use Prim.Native.Nat.{ℕ, zero, suc, _+_, _-_, _*_, _/_, _%_, _<_, _≤_}
+use Prim.Native.Nat.{ℕ, zero, suc, _+_, _*_, _/_, _%_, _<_, _≤_}
 use native.Mathlib.Omega.{arith}
 use mathlib.Core.Path.{_≡_, sym, _∙_, ap}
 use mathlib.Core.List.{List, []}
@@ -20,6 +20,8 @@ use Rattle.buffer.specs.Buffer.{Backing, newestOf, maskOf, joined, newSl
 use Rattle.buffer.specs.Packing.{slotOf, slotsOf, backingOf}
 use Rattle.buffer.specs.Ranges.{Fits, Left, Stores}
 use Rattle.buffer.proofs.Slots.{slot-at, slots-set, word-block, word-mask, any-default}
+use Rattle.buffer.specs.Buffer.{backingFrom}
+use Rattle.buffer.specs.Buffer.{bufferFrom}
 
 -- the newest entry is one of those searched
 pub newest-below : (slots : List Slot) (block n i : ℕ) → newestOf slots block n ≡ At i → i < n
@@ -31,16 +33,16 @@ newest-below slots block (suc n) i e =
     (λ t. let h = newest-below slots block n i (rw t at e) in omega arith)
 
 -- a mask joined to a word
-module _ (w k : ℕ) (h : k < 65536) where
-  pub joined-block : bitOr w k / 4294967296 ≡ w / 4294967296
+module _ (w k : ℕ) (h : k < 0x10000) where
+  pub joined-block : bitOr w k / 0x100000000 ≡ w / 0x100000000
   joined-block =
-      let z : k / 4294967296 ≡ 0 = omega arith in
-      or-shr w k 32 ∙ ap (λ (x : ℕ). bitOr (w / 4294967296) x) z ∙ or-zero-r (w / 4294967296)
+      let z : k / 0x100000000 ≡ 0 = omega arith in
+      or-shr w k 32 ∙ ap (λ (x : ℕ). bitOr (w / 0x100000000) x) z ∙ or-zero-r (w / 0x100000000)
 
-  pub joined-mask : bitOr w k % 4294967296 ≡ bitOr (w % 4294967296) k
+  pub joined-mask : bitOr w k % 0x100000000 ≡ bitOr (w % 0x100000000) k
   joined-mask =
-      let z : k % 4294967296 ≡ k = omega arith in
-      or-mod w k 32 ∙ ap (λ (x : ℕ). bitOr (w % 4294967296) x) z
+      let z : k % 0x100000000 ≡ k = omega arith in
+      or-mod w k 32 ∙ ap (λ (x : ℕ). bitOr (w % 0x100000000) x) z
 
 module _ (m ws : List ℕ) (bs : List (List ℕ)) (used : ℕ) (f : Fits m ws bs used) (pa : PhysicalAddress) (width v : ℕ) (st : Stores m pa width) where
   abbrev b : Backing
@@ -53,7 +55,7 @@ module _ (m ws : List ℕ) (bs : List (List ℕ)) (used : ℕ) (f : Fits m ws bs
   unfolding buffered
   by-search x e = ap (storedAt b (blockOf pa) width (pa .0 % 16) v) (sym e)
 
-  module _ (i : ℕ) (e : newestOf (slotsOf ws bs) (blockOf pa) used ≡ At i) (k : ℕ) (ek : k ≡ maskOf width (pa .0 % 16)) (hk : k < 65536) where
+  module _ (i : ℕ) (e : newestOf (slotsOf ws bs) (blockOf pa) used ≡ At i) (k : ℕ) (ek : k ≡ maskOf width (pa .0 % 16)) (hk : k < 0x10000) where
     low : i < used
     low = newest-below (slotsOf ws bs) (blockOf pa) used i e
 
@@ -75,7 +77,7 @@ module _ (m ws : List ℕ) (bs : List (List ℕ)) (used : ℕ) (f : Fits m ws bs
     joined-left =
         record {
           same =
-              ap (λ (l : List Slot). record { memory = m; buffer = record { slots = l; used = used } })
+              ap (λ (l : List Slot). (backingFrom m (bufferFrom l used)))
               (slots-set ws bs i (bitOr (getD ws i 0) k) new ∙ ap (λ (s : Slot). set (slotsOf ws bs) i s) slot-joined)
               ∙ by-search (At i) e;
           fits = record {
@@ -92,21 +94,21 @@ module _ (m ws : List ℕ) (bs : List (List ℕ)) (used : ℕ) (f : Fits m ws bs
         }
 
   -- no entry has the block: what a push leaves
-  module _ (e : newestOf (slotsOf ws bs) (blockOf pa) used ≡ Nothing) (k : ℕ) (ek : k ≡ maskOf width (pa .0 % 16)) (hk : k < 65536) where
-    pub new-inside : (blockOf pa * 4294967296 + k) / 4294967296 * 16 + 16 ≤ length m
+  module _ (e : newestOf (slotsOf ws bs) (blockOf pa) used ≡ Nothing) (k : ℕ) (ek : k ≡ maskOf width (pa .0 % 16)) (hk : k < 0x10000) where
+    pub new-inside : (blockOf pa * 0x100000000 + k) / 0x100000000 * 16 + 16 ≤ length m
     new-inside = rw (word-block (blockOf pa) k (omega arith)) (st .inside)
 
     pub new-left : (m′ ws′ : List ℕ) (bs′ : List (List ℕ)) (used′ : ℕ) (x : List ℕ) → x ≡ stored width (replicate 16 0) (pa .0 % 16) v
-        → Left m′ ws′ bs′ used′ (pushed b (slotOf (blockOf pa * 4294967296 + k) x)) → Left m′ ws′ bs′ used′ (buffered b pa width v)
+        → Left m′ ws′ bs′ used′ (pushed b (slotOf (blockOf pa * 0x100000000 + k) x)) → Left m′ ws′ bs′ used′ (buffered b pa width v)
     new-left m′ ws′ bs′ used′ x ex l =
-        let s : slotOf (blockOf pa * 4294967296 + k) x ≡ newSlot (blockOf pa) width (pa .0 % 16) v = rw (word-block (blockOf pa) k (omega arith), word-mask (blockOf pa) k (omega arith), ek, ex) in
+        let s : slotOf (blockOf pa * 0x100000000 + k) x ≡ newSlot (blockOf pa) width (pa .0 % 16) v = rw (word-block (blockOf pa) k (omega arith), word-mask (blockOf pa) k (omega arith), ek, ex) in
         record { same = l .same ∙ ap (pushed b) s ∙ by-search Nothing e; fits = l .fits }
 
 -- a half
 pub half-left : (m ws : List ℕ) (bs : List (List ℕ)) (used block : ℕ) (x : List ℕ) (m′ ws′ : List ℕ) (bs′ : List (List ℕ)) (used′ : ℕ)
-    → Left m′ ws′ bs′ used′ (pushed (backingOf m ws bs used) (slotOf (block * 4294967296 + 65535) x))
+    → Left m′ ws′ bs′ used′ (pushed (backingOf m ws bs used) (slotOf (block * 0x100000000 + 0xFFFF) x))
     → Left m′ ws′ bs′ used′ (halfPushed (backingOf m ws bs used) block x)
 unfolding halfPushed
 half-left m ws bs used block x m′ ws′ bs′ used′ l =
-    let s : slotOf (block * 4294967296 + 65535) x ≡ record { block = block; mask = 65535; bytes = x } = rw (word-block block 65535 (omega arith), word-mask block 65535 (omega arith)) in
+    let s : slotOf (block * 0x100000000 + 0xFFFF) x ≡ record { block = block; mask = 0xFFFF; bytes = x } = rw (word-block block 0xFFFF (omega arith), word-mask block 0xFFFF (omega arith)) in
     record { same = l .same ∙ ap (pushed (backingOf m ws bs used)) s; fits = l .fits }

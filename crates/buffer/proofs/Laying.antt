@@ -6,7 +6,7 @@ use mathlib.Core.Path.{_≡_, refl, sym, _∙_, ap}
 use mathlib.Core.List.{List, [], _∷_}
 use lib.ListN.{length, length-set, getD, drop, drop-of-length-le}
 use lib.Seq.{drop-cons}
-use Rattle.values.specs.Tests.{bit}
+use Rattle.values.specs.Bits.{bit}
 use Rattle.values.proofs.Cases.{case}
 use Rattle.buffer.specs.Buffer.{laidOne, laid}
 

@@ -58,7 +58,7 @@ memory-pushed b s =
 -- a half sent out
 pub memory-half : (b : Backing) (block : ℕ) (bytes : List ℕ) → length (halfPushed b block bytes .memory) ≡ length (b .memory)
 unfolding halfPushed
-memory-half b block bytes = memory-pushed b (record { block = block; mask = 65535; bytes = bytes })
+memory-half b block bytes = memory-pushed b (record { block = block; mask = 0xFFFF; bytes = bytes })
 
 -- a store that joins an entry, or takes a new one
 pub memory-stored : (b : Backing) (block width offset v : ℕ) (x : Search) → length (storedAt b block width offset v x .memory) ≡ length (b .memory)
@@ -209,7 +209,7 @@ shape-pushed b s e h =
 -- a half sent out
 pub shape-half : (b : Backing) (block : ℕ) (bytes : List ℕ) → length bytes ≡ 16 → BufferShape (b .buffer) → BufferShape (halfPushed b block bytes .buffer)
 unfolding halfPushed
-shape-half b block bytes e h = shape-pushed b (record { block = block; mask = 65535; bytes = bytes }) e h
+shape-half b block bytes e h = shape-pushed b (record { block = block; mask = 0xFFFF; bytes = bytes }) e h
 
 -- a store that joins an entry, or takes a new one
 pub shape-stored : (b : Backing) (block width offset v : ℕ) (x : Search) → BufferShape (b .buffer) → BufferShape (storedAt b block width offset v x .buffer)

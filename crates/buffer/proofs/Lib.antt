@@ -8,3 +8,4 @@ pub mod Holding
 pub mod Below
 pub mod StoredBelow
 pub mod Lengths
+pub mod Words

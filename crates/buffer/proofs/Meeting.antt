@@ -84,7 +84,7 @@ module _ (s : Slot) where
         halves
         ∙ rw (meets-away 16 (f * 32) (omega arith) (λ q. k (omega arith)), meets-away 16 (f * 32 + 16) (omega arith) (λ q. k (omega arith)))
 
-    pub line-here : s .block / 2 ≡ f → meets 32 (f * 32) s ≡ not (eqb (s .mask % 65536) 0)
+    pub line-here : s .block / 2 ≡ f → meets 32 (f * 32) s ≡ not (eqb (s .mask % 0x10000) 0)
     line-here k =
         halves
         ∙ case (eqb (s .block % 2) 0)
@@ -95,14 +95,14 @@ module _ (s : Slot) where
         rw (meets-away 16 (f * 32 + 16) (omega arith) (λ q. (absurd (omega arith))))
         (or-false (meets 16 (f * 32) s)
         ∙ meets-here 16 (f * 32) (omega arith) (omega arith)
-        ∙ ap (λ (i : ℕ). not (eqb (s .mask / 2 ^ i % 65536) 0)) z ∙ ap (λ (y : ℕ). not (eqb (y % 65536) 0)) m))
+        ∙ ap (λ (i : ℕ). not (eqb (s .mask / 2 ^ i % 0x10000) 0)) z ∙ ap (λ (y : ℕ). not (eqb (y % 0x10000) 0)) m))
         (λ t.
         let e : s .block % 2 ≡ 1 = (let h = eqb-false (s .block % 2) 0 t in omega arith) in
         let z : (f * 32 + 16) % 16 ≡ 0 = omega arith in
         let m : s .mask / 1 ≡ s .mask = omega arith in
         rw (meets-away 16 (f * 32) (omega arith) (λ q. (absurd (omega arith))))
         (meets-here 16 (f * 32 + 16) (omega arith) (omega arith)
-        ∙ ap (λ (i : ℕ). not (eqb (s .mask / 2 ^ i % 65536) 0)) z ∙ ap (λ (y : ℕ). not (eqb (y % 65536) 0)) m))
+        ∙ ap (λ (i : ℕ). not (eqb (s .mask / 2 ^ i % 0x10000) 0)) z ∙ ap (λ (y : ℕ). not (eqb (y % 0x10000) 0)) m))
       where
         or-false : (b : Bool) → (b || false) ≡ b
         or-false true = refl

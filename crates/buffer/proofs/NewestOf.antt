@@ -13,17 +13,17 @@ use Rattle.buffer.specs.Packing.{slotsOf}
 use Rattle.buffer.proofs.Slots.{slot-at}
 
 module _ (ws : List ℕ) (bs : List (List ℕ)) (long : length ws ≡ length bs) (block n : ℕ) (h : 0 < n) where
-  block-at : getD (slotsOf ws bs) (n - 1) emptySlot .block ≡ getD ws (n - 1) 0 / 4294967296
+  block-at : getD (slotsOf ws bs) (n - 1) emptySlot .block ≡ getD ws (n - 1) 0 / 0x100000000
   block-at = ap (λ (s : Slot). s .block) (slot-at ws bs (n - 1) long)
 
   next : n ≡ suc (n - 1)
   next = omega arith
 
-  pub newest-hit : getD ws (n - 1) 0 / 4294967296 ≡ block → newestOf (slotsOf ws bs) block n ≡ At (n - 1)
+  pub newest-hit : getD ws (n - 1) 0 / 0x100000000 ≡ block → newestOf (slotsOf ws bs) block n ≡ At (n - 1)
   unfolding newestOf
   newest-hit e = ap (λ (k : ℕ). newestOf (slotsOf ws bs) block k) next ∙ rw (eq-eqb _ block (block-at ∙ e))
 
-  pub newest-on : (getD ws (n - 1) 0 / 4294967296 ≡ block → ⊥) → newestOf (slotsOf ws bs) block n ≡ newestOf (slotsOf ws bs) block (n - 1)
+  pub newest-on : (getD ws (n - 1) 0 / 0x100000000 ≡ block → ⊥) → newestOf (slotsOf ws bs) block n ≡ newestOf (slotsOf ws bs) block (n - 1)
   unfolding newestOf
   newest-on e = ap (λ (k : ℕ). newestOf (slotsOf ws bs) block k) next ∙ rw (ne-eqb _ block (λ q. e (sym block-at ∙ q)))
 

@@ -1,5 +1,5 @@
 -- Entries and the words and bytes that stand for them.
-use Prim.Native.Nat.{ℕ, zero, suc, _+_, _/_, _%_, _<_}
+use Prim.Native.Nat.{ℕ, zero, suc, _/_, _%_, _<_}
 use native.Mathlib.Omega.{arith}
 use mathlib.Core.Path.{_≡_, refl, ap}
 use mathlib.Core.List.{List, [], _∷_, _++_}
@@ -54,10 +54,10 @@ slots-append (u ∷ us) ws [] ds h = absurd (omega arith)
 slots-append (u ∷ us) ws (b ∷ bs) ds h = ap {B = List Slot} (λ r. slotOf u b ∷ r) (slots-append us ws bs ds (omega arith))
 
 -- a word's parts
-pub word-block : (block mask : ℕ) → mask < 4294967296 → wordOf block mask / 4294967296 ≡ block
+pub word-block : (block mask : ℕ) → mask < 0x100000000 → wordOf block mask / 0x100000000 ≡ block
 word-block block mask h = omega arith
 
-pub word-mask : (block mask : ℕ) → mask < 4294967296 → wordOf block mask % 4294967296 ≡ mask
+pub word-mask : (block mask : ℕ) → mask < 0x100000000 → wordOf block mask % 0x100000000 ≡ mask
 word-mask block mask h = omega arith
 
 -- an element inside a list does not depend on the default

@@ -11,7 +11,7 @@ use lib.ListN.{length, length-append, getD, take, drop, replicate, getD-replicat
 use lib.Pow.{pow-pos}
 use lib.Seq.{set-split, split-at, getD-drop, drop-append-le}
 use borrow.Author.Tests.{eqb-true, eqb-false, eq-eqb, ltb-true, ltb-false}
-use Rattle.values.specs.Tests.{bit}
+use Rattle.values.specs.Bits.{bit}
 use Rattle.values.specs.Empty.{emptySlot}
 use Rattle.values.specs.Addresses.{blockOf}
 use Rattle.values.specs.declared.PhysicalAddress.{PhysicalAddress}
@@ -354,9 +354,9 @@ module _ (m : List ℕ) (l : List Slot) (used : ℕ) (eight : length l ≡ 8) (l
       → below (halfPushed (with-slots m l used) block bytes) p ≡ cond (eqb (p / 16) block) (getD bytes (p % 16) 0) (below (with-slots m l used) p)
   unfolding halfPushed
   half-below block bytes p =
-      pushed-below (record { block = block; mask = 65535; bytes = bytes }) p ∙ whole (eqb (p / 16) block)
+      pushed-below (record { block = block; mask = 0xFFFF; bytes = bytes }) p ∙ whole (eqb (p / 16) block)
     where
-      whole : (t : Bool) → cond (t && bit 65535 (p % 16)) (getD bytes (p % 16) 0) (below (with-slots m l used) p)
+      whole : (t : Bool) → cond (t && bit 0xFFFF (p % 16)) (getD bytes (p % 16) 0) (below (with-slots m l used) p)
           ≡ cond t (getD bytes (p % 16) 0) (below (with-slots m l used) p)
       whole true = rw (ones-in 16 (p % 16) (omega arith))
       whole false = refl

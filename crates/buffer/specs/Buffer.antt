@@ -6,7 +6,8 @@ use mathlib.Core.List.{List, [], _∷_, _++_}
 use lib.Dec.{eqb, ltb}
 use lib.Bits.{bitOr}
 use lib.ListN.{getD, set, take, drop, replicate}
-use Rattle.values.specs.Tests.{bit, any}
+use Rattle.values.specs.Bits.{bit}
+use Rattle.values.specs.Lists.{any}
 use Rattle.values.specs.Empty.{emptySlot}
 use Rattle.values.specs.Addresses.{blockOf}
 use Rattle.values.specs.declared.PhysicalAddress.{PhysicalAddress}
@@ -25,8 +26,20 @@ pub record Backing : Type 0 where
   pub memory : List ℕ
   pub buffer : Buffer
 
+abbrev pub bufferFrom : List Slot → ℕ → Buffer
+bufferFrom slots used = record { slots = slots; used = used }
+
+abbrev pub backingFrom : List ℕ → Buffer → Backing
+backingFrom memory buffer = record { memory = memory; buffer = buffer }
+
+abbrev pub withMemory : Backing → List ℕ → Backing
+withMemory b memory = backingFrom memory (b .buffer)
+
+abbrev pub withBuffer : Backing → Buffer → Backing
+withBuffer b buffer = backingFrom (b .memory) buffer
+
 abbrev pub emptyBuffer : Buffer
-emptyBuffer = record { slots = replicate 8 emptySlot; used = 0 }
+emptyBuffer = bufferFrom (replicate 8 emptySlot) 0
 
 abbrev pub slotAt : Buffer → ℕ → Slot
 slotAt b i = getD (b .slots) i emptySlot
@@ -46,10 +59,8 @@ laid memory a mask (x ∷ xs) = laid (laidOne memory a mask x) (a + 1) (mask / 2
 unfoldable pub oldestLeft : Backing → Backing
 oldestLeft b =
     let s = slotAt (b .buffer) 0 in
-    record {
-      memory = laid (b .memory) (s .block * 16) (s .mask) (s .bytes);
-      buffer = record { slots = drop 1 (b .buffer .slots) ++ (emptySlot ∷ []); used = b .buffer .used - 1 };
-    }
+    backingFrom (laid (b .memory) (s .block * 16) (s .mask) (s .bytes))
+    (bufferFrom (drop 1 (b .buffer .slots) ++ (emptySlot ∷ [])) (b .buffer .used - 1))
 
 unfoldable pub leaving : ℕ → Backing → Backing
 leaving zero b = b
@@ -63,14 +74,14 @@ drained b = leaving (b .buffer .used) b
 
 -- a new entry, behind the others; "oldest leaving first when full"
 unfoldable pub behind : Backing → Slot → Backing
-behind b s = record { memory = b .memory; buffer = record { slots = set (b .buffer .slots) (b .buffer .used) s; used = b .buffer .used + 1 } }
+behind b s = withBuffer b (bufferFrom (set (b .buffer .slots) (b .buffer .used) s) (b .buffer .used + 1))
 
 unfoldable pub pushed : Backing → Slot → Backing
 pushed b s = cond (ltb (b .buffer .used) 8) (behind b s) (behind (oldestLeft b) s)
 
 -- "a half sent out always takes a new one"
 unfoldable pub halfPushed : Backing → ℕ → List ℕ → Backing
-halfPushed b block bytes = pushed b (record { block = block; mask = 65535; bytes = bytes })
+halfPushed b block bytes = pushed b (record { block = block; mask = 0xFFFF; bytes = bytes })
 
 -- the newest of the first n entries that has the block
 unfoldable pub newestOf : List Slot → ℕ → ℕ → Search
@@ -93,10 +104,7 @@ newSlot block width offset v =
 
 abbrev pub storedAt : Backing → ℕ → ℕ → ℕ → ℕ → Search → Backing
 storedAt b block width offset v (At i) =
-    record {
-      memory = b .memory;
-      buffer = record { slots = set (b .buffer .slots) i (joined (slotAt (b .buffer) i) width offset v); used = b .buffer .used };
-    }
+    withBuffer b (bufferFrom (set (b .buffer .slots) i (joined (slotAt (b .buffer) i) width offset v)) (b .buffer .used))
 storedAt b block width offset v Nothing = pushed b (newSlot block width offset v)
 
 -- "A store joins the newest entry of the same block, else takes a new one"

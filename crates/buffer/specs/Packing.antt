@@ -4,12 +4,14 @@ use Prim.Native.Nat.{ℕ, _+_, _*_, _/_, _%_}
 use mathlib.Core.List.{List, [], _∷_}
 use Rattle.values.specs.declared.Slot.{Slot}
 use Rattle.buffer.specs.Buffer.{Backing}
+use Rattle.buffer.specs.Buffer.{backingFrom}
+use Rattle.buffer.specs.Buffer.{bufferFrom}
 
 abbrev pub slotOf : ℕ → List ℕ → Slot
-slotOf w bytes = record { block = w / 4294967296; mask = w % 4294967296; bytes = bytes }
+slotOf w bytes = record { block = w / 0x100000000; mask = w % 0x100000000; bytes = bytes }
 
 abbrev pub wordOf : ℕ → ℕ → ℕ
-wordOf block mask = block * 4294967296 + mask
+wordOf block mask = block * 0x100000000 + mask
 
 -- the entries that words and their bytes stand for
 unfoldable pub slotsOf : List ℕ → List (List ℕ) → List Slot
@@ -19,4 +21,4 @@ slotsOf (w ∷ ws) (b ∷ bs) = slotOf w b ∷ slotsOf ws bs
 
 -- memory and the buffer that words, bytes and the number of entries stand for
 abbrev pub backingOf : List ℕ → List ℕ → List (List ℕ) → ℕ → Backing
-backingOf memory words bytes used = record { memory = memory; buffer = record { slots = slotsOf words bytes; used = used } }
+backingOf memory words bytes used = (backingFrom memory (bufferFrom (slotsOf words bytes) used))

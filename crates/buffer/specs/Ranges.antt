@@ -13,7 +13,7 @@ pub record Fits (memory : List ℕ) (words : List ℕ) (bytes : List (List ℕ))
   pub words-long : length words ≡ 8
   pub bytes-long : length bytes ≡ 8
   pub used-low : used ≤ 8
-  pub inside : (i : ℕ) → i < used → getD words i 0 / 4294967296 * 16 + 16 ≤ length memory
+  pub inside : (i : ℕ) → i < used → getD words i 0 / 0x100000000 * 16 + 16 ≤ length memory
 
 -- what the code leaves is this backing, and fits
 pub record Left (memory words : List ℕ) (bytes : List (List ℕ)) (used : ℕ) (b : Backing) : Type 0 where

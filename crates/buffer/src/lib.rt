@@ -9,6 +9,7 @@ ghost use Rattle.words.specs.Words.{isWidth, stored};
 ghost use Rattle.buffer.specs.Buffer as spec;
 ghost use Rattle.buffer.specs.Packing.{slotOf, slotsOf, backingOf};
 ghost use Rattle.buffer.specs.Ranges.{Fits, Left, Stores};
+ghost use Rattle.buffer.specs.Buffer.{bufferFrom};
 use values::PhysicalAddress;
 use values::Search;
 
@@ -37,7 +38,7 @@ fn lay_one(memory: &mut [u8], at: usize, mask: u32, byte: u8)
 }
 
 // The newest of the first `used` entries that has the block.
-pub fn newest(words: &[u64], used: usize, block: u32) -> Search
+fn newest(words: &[u64], used: usize, block: u32) -> Search
     requires { ⌜ (length (now words) ≡ 8) × (used ≤ 8) ⌝ }
     ensures { λ r. ⌜ ((bytes : List (List ℕ)) → length bytes ≡ 8 → r ≡ spec.newestOf (slotsOf (now (words .entry)) bytes) block used) ⌝ }
 {
@@ -46,7 +47,7 @@ pub fn newest(words: &[u64], used: usize, block: u32) -> Search
         if n == 0 {
             break Search::Nothing;
         }
-        if words[n - 1] / 4294967296 == block as u64 {
+        if words[n - 1] / 0x100000000 == block as u64 {
             break Search::At(n - 1);
         }
         n -= 1;
@@ -65,7 +66,7 @@ fn with_store(entry: [u8; 16], offset: usize, width: u32, value: u32) -> [u8; 16
 }
 
 // The bytes of the entries, with a store's bytes in entry i.
-pub fn merge(bytes: [[u8; 16]; 8], i: usize, offset: usize, width: u32, value: u32) -> [[u8; 16]; 8]
+fn merge(bytes: [[u8; 16]; 8], i: usize, offset: usize, width: u32, value: u32) -> [[u8; 16]; 8]
     requires { ⌜ (i < 8) × (isWidth width ≡ true) × (offset + width ≤ 16) ⌝ }
     ensures { λ r. ⌜ r ≡ set bytes i (stored width (getD bytes i []) offset value) ⌝ }
 {
@@ -110,15 +111,15 @@ fn oldest_leaves(memory: &mut [u8], words: &mut [u64], bytes: &mut [[u8; 16]], u
 {
     let w = words[0];
     let b = bytes[0];
-    let block = (w / 4294967296) as usize;
-    let mask = (w % 4294967296) as u32;
+    let block = (w / 0x100000000) as usize;
+    let mask = (w % 0x100000000) as u32;
     lay(memory, block * 16, mask, b);
     close_words(words);
     close_bytes(bytes);
 }
 
 // A new entry behind the others; if there are eight, the oldest leaves first. It answers the number of entries.
-pub fn push(
+fn push(
     memory: &mut [u8],
     words: &mut [u64],
     bytes: &mut [[u8; 16]],
@@ -126,7 +127,7 @@ pub fn push(
     w: u64,
     b: [u8; 16],
 ) -> usize
-    requires { ⌜ Fits (now memory) (now words) (now bytes) used × (w / 4294967296 * 16 + 16 ≤ length (now memory)) ⌝ }
+    requires { ⌜ Fits (now memory) (now words) (now bytes) used × (w / 0x100000000 * 16 + 16 ≤ length (now memory)) ⌝ }
     ensures { λ r.
         ⌜ Left (now (memory .exit)) (now (words .exit)) (now (bytes .exit)) r
         (spec.pushed (backingOf (now (memory .entry)) (now (words .entry)) (now (bytes .entry)) used) (slotOf w b)) ⌝ }
@@ -166,7 +167,7 @@ pub fn drain(
 // The mask of the bytes of an access, by its place in its block.
 fn mask_of(width: u32, offset: u32) -> u64
     requires { ⌜ (isWidth width ≡ true) × (offset + width ≤ 16) ⌝ }
-    ensures { λ r. ⌜ (r ≡ spec.maskOf width offset) × (r < 65536) ⌝ }
+    ensures { λ r. ⌜ (r ≡ spec.maskOf width offset) × (r < 0x10000) ⌝ }
 {
     if width == 4 {
         return 15 << offset;
@@ -228,7 +229,7 @@ pub fn store(
                 words,
                 bytes,
                 used,
-                (block as u64) * 4294967296 + mask,
+                (block as u64) * 0x100000000 + mask,
                 fresh,
             )
         },
@@ -254,7 +255,7 @@ pub fn push_half(
         words,
         bytes,
         used,
-        (block as u64) * 4294967296 + 65535,
+        (block as u64) * 0x100000000 + 0xFFFF,
         half,
     )
 }
@@ -264,10 +265,10 @@ fn meets_access(w: u64, pa: PhysicalAddress, width: u32) -> bool
     requires { ⌜ (isWidth width ≡ true) × (pa .0 % 16 + width ≤ 16) ⌝ }
     ensures { λ r. ⌜ ((b : List ℕ) → r ≡ spec.meets width (pa .0) (slotOf w b)) ⌝ }
 {
-    if w / 4294967296 != (pa.0 / 16) as u64 {
+    if w / 0x100000000 != (pa.0 / 16) as u64 {
         return false;
     }
-    let left = (w % 4294967296) >> (pa.0 % 16);
+    let left = (w % 0x100000000) >> (pa.0 % 16);
     if width == 4 {
         return left % 16 != 0;
     }
@@ -281,16 +282,17 @@ fn meets_access(w: u64, pa: PhysicalAddress, width: u32) -> bool
 fn meets_line(w: u64, frame: u32) -> bool
     ensures { λ r. ⌜ ((b : List ℕ) → r ≡ spec.meets 32 (frame * 32) (slotOf w b)) ⌝ }
 {
-    if w / 8589934592 != frame as u64 {
+    if w / 0x200000000 != frame as u64 {
         return false;
     }
-    w % 65536 != 0
+    w % 0x10000 != 0
 }
 
 // Whether one of the entries masks a byte of an access.
-pub fn holds_access(words: &[u64], used: usize, pa: PhysicalAddress, width: u32) -> bool
+fn holds_access(words: &[u64], used: usize, pa: PhysicalAddress, width: u32) -> bool
     requires { ⌜ (length (now words) ≡ 8) × (used ≤ 8) × (isWidth width ≡ true) × (pa .0 % 16 + width ≤ 16) ⌝ }
-    ensures { λ r. ⌜ ((bytes : List (List ℕ)) → length bytes ≡ 8 → r ≡ spec.holds (record { slots = slotsOf (now (words .entry)) bytes; used = used }) (pa .0) width) ⌝ }
+    ensures { λ r. ⌜ ((bytes : List (List ℕ)) → length bytes ≡ 8 → r
+        ≡ spec.holds (bufferFrom (slotsOf (now (words .entry)) bytes) used) (pa .0) width) ⌝ }
 {
     let mut i: usize = 0;
     while i < used {
@@ -303,9 +305,10 @@ pub fn holds_access(words: &[u64], used: usize, pa: PhysicalAddress, width: u32)
 }
 
 // Whether one of the entries masks a byte of a line.
-pub fn holds_line(words: &[u64], used: usize, frame: u32) -> bool
+fn holds_line(words: &[u64], used: usize, frame: u32) -> bool
     requires { ⌜ (length (now words) ≡ 8) × (used ≤ 8) ⌝ }
-    ensures { λ r. ⌜ ((bytes : List (List ℕ)) → length bytes ≡ 8 → r ≡ spec.holds (record { slots = slotsOf (now (words .entry)) bytes; used = used }) (frame * 32) 32) ⌝ }
+    ensures { λ r. ⌜ ((bytes : List (List ℕ)) → length bytes ≡ 8 → r
+        ≡ spec.holds (bufferFrom (slotsOf (now (words .entry)) bytes) used) (frame * 32) 32) ⌝ }
 {
     let mut i: usize = 0;
     while i < used {

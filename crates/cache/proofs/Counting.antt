@@ -3,7 +3,7 @@ use Prim.Native.Nat.{ℕ, _+_, _≤_}
 use native.Mathlib.Omega.{arith}
 use mathlib.Core.Path.{_≡_, refl}
 use lib.Dec.{ltb}
-use Rattle.values.specs.Tests.{sum}
+use Rattle.values.specs.Lists.{sum}
 use Rattle.values.specs.Empty.{emptyLine}
 use Rattle.values.specs.Addresses.{offsetOf, tagOf, physicalLine}
 use Rattle.values.specs.declared.VirtualAddress.{VirtualAddress}

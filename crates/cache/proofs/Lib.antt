@@ -5,3 +5,4 @@ pub mod Counting
 pub mod Unchanged
 pub mod PutGet
 pub mod Finds
+pub mod Words

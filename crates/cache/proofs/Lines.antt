@@ -7,8 +7,9 @@ use mathlib.Core.List.{List}
 use lib.Dec.{eqb}
 use lib.ListN.{length, length-map, length-drop, getD, set, take, drop, replicate}
 use lib.Seq.{getD-take, getD-drop, length-take-le}
-use borrow.Author.Tests.{lt-ltb, le-ltb}
-use Rattle.values.specs.Tests.{firstFrom}
+use borrow.Author.Tests.{lt-ltb, le-ltb, eq-eqb, ne-eqb}
+use Rattle.values.proofs.Cases.{and-false}
+use Rattle.values.specs.Lists.{firstFrom}
 use Rattle.values.specs.Empty.{emptyLine, noLines}
 use Rattle.values.specs.declared.Line.{Line}
 use Rattle.values.specs.declared.Search.the-variants.{At, Nothing}
@@ -28,36 +29,40 @@ line-at ws i = map-at lineOf emptyLine line-zero ws i
 -- ---- the tag's test
 
 module _ (tag w : ℕ) where
-  pub tag-valid : w % 2 ≡ 1 → hasTag tag (lineOf w) ≡ eqb (w / 4294967296) tag
+  pub tag-valid : w % 2 ≡ 1 → w / 0x100000000 ≡ tag → hasTag tag (lineOf w) ≡ true
   unfolding lineOf
-  tag-valid h = let e : w / 1 % 2 ≡ 1 = omega arith in rw e
+  tag-valid h t = let e : w / 1 % 2 ≡ 1 = omega arith in rw e (eq-eqb (w / 0x100000000) tag t)
 
   pub tag-invalid : (w % 2 ≡ 1 → ⊥) → hasTag tag (lineOf w) ≡ false
   unfolding lineOf
   tag-invalid h = let e : w / 1 % 2 ≡ 0 = omega arith in rw e
 
+  pub tag-other : (w / 0x100000000 ≡ tag → ⊥) → hasTag tag (lineOf w) ≡ false
+  unfolding lineOf
+  tag-other h = and-false (lineOf w .valid) (eqb (w / 0x100000000) tag) (ne-eqb (w / 0x100000000) tag h)
+
 -- ---- the dirty bits
 
 -- a number's parts above bit 2 and above bit 31, by its part above bit 1
-above : (x y : ℕ) → x / 4 ≡ y / 4 → (x / 8 ≡ y / 8) × (x / 4294967296 ≡ y / 4294967296)
+above : (x y : ℕ) → x / 4 ≡ y / 4 → (x / 8 ≡ y / 8) × (x / 0x100000000 ≡ y / 0x100000000)
 above x y h =
     let a : x / 8 ≡ x / 4 / 2 = omega arith in
     let b : y / 8 ≡ y / 4 / 2 = omega arith in
-    let c : x / 4294967296 ≡ x / 4 / 1073741824 = omega arith in
-    let d : y / 4294967296 ≡ y / 4 / 1073741824 = omega arith in
-    (a ∙ ap (λ (z : ℕ). z / 2) h ∙ sym b, c ∙ ap (λ (z : ℕ). z / 1073741824) h ∙ sym d)
+    let c : x / 0x100000000 ≡ x / 4 / 0x40000000 = omega arith in
+    let d : y / 0x100000000 ≡ y / 4 / 0x40000000 = omega arith in
+    (a ∙ ap (λ (z : ℕ). z / 2) h ∙ sym b, c ∙ ap (λ (z : ℕ). z / 0x40000000) h ∙ sym d)
 
 low-quarter : (w : ℕ) → (w / 2 % 2 ≡ 1 → ⊥) → (w + 2) / 4 ≡ w / 4
 low-quarter w n = omega arith
 
-high-eighth : (w v : ℕ) → w / 4 ≡ v → (v % 2 ≡ 1 → ⊥) → ((w + 4) / 8 ≡ w / 8) × ((w + 4) / 4294967296 ≡ w / 4294967296)
+high-eighth : (w v : ℕ) → w / 4 ≡ v → (v % 2 ≡ 1 → ⊥) → ((w + 4) / 8 ≡ w / 8) × ((w + 4) / 0x100000000 ≡ w / 0x100000000)
 high-eighth w v e n =
     let a : (w + 4) / 4 ≡ v + 1 = omega arith in
     let b : (v + 1) / 2 ≡ v / 2 = odd v n in
     let c : (w + 4) / 8 ≡ (w + 4) / 4 / 2 = eighth (w + 4) in
     let d : w / 8 ≡ w / 4 / 2 = eighth w in
     let f : (w + 4) / 8 ≡ w / 8 = c ∙ ap (λ (z : ℕ). z / 2) a ∙ b ∙ ap (λ (z : ℕ). z / 2) (sym e) ∙ sym d in
-    (f, top (w + 4) ∙ ap (λ (z : ℕ). z / 536870912) f ∙ sym (top w))
+    (f, top (w + 4) ∙ ap (λ (z : ℕ). z / 0x20000000) f ∙ sym (top w))
   where
     odd : (x : ℕ) → (x % 2 ≡ 1 → ⊥) → (x + 1) / 2 ≡ x / 2
     odd x k = omega arith
@@ -65,7 +70,7 @@ high-eighth w v e n =
     eighth : (x : ℕ) → x / 8 ≡ x / 4 / 2
     eighth x = omega arith
 
-    top : (x : ℕ) → x / 4294967296 ≡ x / 8 / 536870912
+    top : (x : ℕ) → x / 0x100000000 ≡ x / 8 / 0x20000000
     top x = omega arith
 
 module _ (w offset : ℕ) where
@@ -164,7 +169,7 @@ clear q b x e h =
     two : (y : ℕ) → y * 2 % 2 ≡ 0
     two y = omega arith
 
-above-frame : (x : ℕ) → x / 4294967296 ≡ x / 8 / 536870912
+above-frame : (x : ℕ) → x / 0x100000000 ≡ x / 8 / 0x20000000
 above-frame x = omega arith
 
 pub clean-word : (w : ℕ) → lineOf (w / 8 * 8 + w % 2) ≡ cleanLine (lineOf w)
@@ -173,16 +178,16 @@ clean-word w =
     let x = w / 8 * 8 + w % 2 in
     let c = clear (w / 8) (w % 2) x refl (omega arith) in
     let v : w / 1 % 2 ≡ w % 2 = omega arith in
-    let t : x / 4294967296 ≡ w / 4294967296 = above-frame x ∙ ap (λ (y : ℕ). y / 536870912) (c .rest) ∙ sym (above-frame w) in
+    let t : x / 0x100000000 ≡ w / 0x100000000 = above-frame x ∙ ap (λ (y : ℕ). y / 0x20000000) (c .rest) ∙ sym (above-frame w) in
     rw (c .zero-bit, c .one-bit, c .two-bit, t, c .rest, v)
 
 -- ---- a line that is read
 
-pub fresh-word : (tag frame : ℕ) → frame < 536870912 → lineOf (tag * 4294967296 + frame * 8 + 1) ≡ freshLine tag frame
+pub fresh-word : (tag frame : ℕ) → frame < 0x20000000 → lineOf (tag * 0x100000000 + frame * 8 + 1) ≡ freshLine tag frame
 unfolding lineOf
 fresh-word tag frame h =
-    let x = tag * 4294967296 + frame * 8 + 1 in
-    let c = clear (tag * 536870912 + frame) 1 x (omega arith) (omega arith) in
-    let f : x / 8 % 536870912 ≡ frame = rw (c .rest) (omega arith) in
-    let t : x / 4294967296 ≡ tag = above-frame x ∙ rw (c .rest) (omega arith) in
+    let x = tag * 0x100000000 + frame * 8 + 1 in
+    let c = clear (tag * 0x20000000 + frame) 1 x (omega arith) (omega arith) in
+    let f : x / 8 % 0x20000000 ≡ frame = rw (c .rest) (omega arith) in
+    let t : x / 0x100000000 ≡ tag = above-frame x ∙ rw (c .rest) (omega arith) in
     rw (c .zero-bit, c .one-bit, c .two-bit, f, t)

@@ -16,6 +16,8 @@ use Rattle.buffer.specs.Ranges.{Left}
 use Rattle.cache.specs.Dcache.{halvesSent, dirtyHalves, cleanLine, freshLine, cleanedAt, copied, turned, lineRead, filled}
 use Rattle.cache.specs.Packing.{lineOf, linesOf, sideOf, SentIs}
 use Rattle.cache.proofs.Lines.{line-at}
+use Rattle.cache.specs.Dcache.{sideFrom}
+use Rattle.cache.specs.Dcache.{dcacheFrom}
 
 module _ (m ws : List ℕ) (bs : List (List ℕ)) (used : ℕ) (lines pointers store : List ℕ) where
   -- a line replaced by the line that a word stands for
@@ -32,8 +34,8 @@ module _ (m ws : List ℕ) (bs : List (List ℕ)) (used : ℕ) (lines pointers s
       rw q
       (record {
         side =
-            ap (λ (x : List Line). record { cache = record { lines = x; pointers = pointers; store = store }; backing = backingOf m′ ws′ bs′ n }) s
-            ∙ ap (λ (b : Backing). record { cache = record { lines = set (linesOf lines) i (cleanLine l); pointers = pointers; store = store }; backing = b }) (o .same);
+            ap (λ (x : List Line). (sideFrom (dcacheFrom x pointers store) (backingOf m′ ws′ bs′ n))) s
+            ∙ ap (λ (b : Backing). (sideFrom (dcacheFrom (set (linesOf lines) i (cleanLine l)) pointers store) b)) (o .same);
         count = eh;
         fits = o .fits;
       })
@@ -54,8 +56,8 @@ module _ (m ws : List ℕ) (bs : List (List ℕ)) (used : ℕ) (lines pointers s
       rw (← ei, q, ← eb)
       (record {
         side =
-            ap (λ (x : List Line). record { cache = record { lines = x; pointers = turned pointers (setOf va); store = copied store (i * 32) m′ (physicalLine pa * 32) 32 }; backing = backingOf m′ ws′ bs′ n }) s
-            ∙ ap (λ (x : Backing). record { cache = record { lines = set (linesOf lines) i new; pointers = turned pointers (setOf va); store = copied store (i * 32) (x .memory) (physicalLine pa * 32) 32 }; backing = x }) (o .same);
+            ap (λ (x : List Line). (sideFrom (dcacheFrom x (turned pointers (setOf va)) (copied store (i * 32) m′ (physicalLine pa * 32) 32)) (backingOf m′ ws′ bs′ n))) s
+            ∙ ap (λ (x : Backing). (sideFrom (dcacheFrom (set (linesOf lines) i new) (turned pointers (setOf va)) (copied store (i * 32) (x .memory) (physicalLine pa * 32) 32)) x)) (o .same);
         count = eh;
         fits = o .fits;
       })

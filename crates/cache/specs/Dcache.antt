@@ -5,7 +5,8 @@ use mathlib.Core.Bool.{Bool, true, false, cond, _&&_}
 use mathlib.Core.List.{List, _++_}
 use lib.Dec.{eqb, ltb}
 use lib.ListN.{getD, set, take, drop}
-use Rattle.values.specs.Tests.{firstFrom, number}
+use Rattle.values.specs.Bits.{number}
+use Rattle.values.specs.Lists.{firstFrom}
 use Rattle.values.specs.Empty.{emptyLine, noLines}
 use Rattle.values.specs.Addresses.{setOf, tagOf, offsetOf, physicalLine}
 use Rattle.values.specs.declared.VirtualAddress.{VirtualAddress}
@@ -32,11 +33,23 @@ pub record Sent : Type 0 where
   pub side : Side
   pub halves : ℕ
 
+abbrev pub dcacheFrom : List Line → List ℕ → List ℕ → Dcache
+dcacheFrom lines pointers store = record { lines = lines; pointers = pointers; store = store }
+
+abbrev pub sideFrom : Dcache → Backing → Side
+sideFrom cache backing = record { cache = cache; backing = backing }
+
+abbrev pub sentFrom : Side → ℕ → Sent
+sentFrom side halves = record { side = side; halves = halves }
+
+abbrev pub withLines : Dcache → List Line → Dcache
+withLines c lines = dcacheFrom lines (c .pointers) (c .store)
+
 abbrev pub lineAt : Dcache → ℕ → Line
 lineAt c i = getD (c .lines) i emptyLine
 
 abbrev pub withLine : Dcache → ℕ → Line → Dcache
-withLine c i l = record { lines = set (c .lines) i l; pointers = c .pointers; store = c .store }
+withLine c i l = withLines c (set (c .lines) i l)
 
 -- ---- the search
 
@@ -64,11 +77,7 @@ marked l offset =
 
 unfoldable pub hitStore : Dcache → ℕ → VirtualAddress → ℕ → ℕ → Dcache
 hitStore c i va width v =
-    record {
-      lines = set (c .lines) i (marked (lineAt c i) (offsetOf va));
-      pointers = c .pointers;
-      store = stored width (c .store) (i * 32 + offsetOf va) v;
-    }
+    dcacheFrom (set (c .lines) i (marked (lineAt c i) (offsetOf va))) (c .pointers) (stored width (c .store) (i * 32 + offsetOf va) v)
 
 -- ---- halves sent out
 
@@ -104,11 +113,8 @@ freshLine tag frame = record { valid = true; tag = tag; frame = frame; low = fal
 -- "the line is read": into line i, from a backing in which no masked byte lies in it
 unfoldable pub lineRead : Dcache → ℕ → VirtualAddress → PhysicalAddress → List ℕ → Dcache
 lineRead c i va pa memory =
-    record {
-      lines = set (c .lines) i (freshLine (tagOf va) (physicalLine pa));
-      pointers = turned (c .pointers) (setOf va);
-      store = copied (c .store) (i * 32) memory (physicalLine pa * 32) 32;
-    }
+    dcacheFrom (set (c .lines) i (freshLine (tagOf va) (physicalLine pa))) (turned (c .pointers) (setOf va))
+    (copied (c .store) (i * 32) memory (physicalLine pa * 32) 32)
 
 -- "the line at the set's pointer gives way, its dirty halves go to the buffer, low half first, the pointer steps, the line is read";
 -- "A fill, once the old line has given way, ... first drains it if a masked byte lies in what is read (the whole line, or the access)"
@@ -117,7 +123,7 @@ filled s va pa =
     let i = victim (s .cache) va in
     let l = lineAt (s .cache) i in
     let b = ready (halvesSent (s .backing) l (s .cache .store) (i * 32)) (physicalLine pa * 32) 32 in
-    record { side = record { cache = lineRead (s .cache) i va pa (b .memory); backing = b }; halves = dirtyHalves l }
+    sentFrom (sideFrom (lineRead (s .cache) i va pa (b .memory)) b) (dirtyHalves l)
 
 -- ---- clean and flush
 
@@ -127,16 +133,10 @@ cleanLine l = record { valid = l .valid; tag = l .tag; frame = l .frame; low = f
 
 -- "A clean sends dirty halves to the buffer, low half first, clears their dirty bits and leaves the line valid."
 unfoldable pub cleanedAt : Side → Search → Sent
-cleanedAt s Nothing = record { side = s; halves = 0 }
+cleanedAt s Nothing = sentFrom s 0
 cleanedAt s (At i) =
     let l = lineAt (s .cache) i in
-    record {
-      side = record {
-        cache = withLine (s .cache) i (cleanLine l);
-        backing = halvesSent (s .backing) l (s .cache .store) (i * 32);
-      };
-      halves = dirtyHalves l;
-    }
+    sentFrom (sideFrom (withLine (s .cache) i (cleanLine l)) (halvesSent (s .backing) l (s .cache .store) (i * 32))) (dirtyHalves l)
 
 -- "(1,10) cleans it", the line of the virtual address written; "Lines are matched by virtual tag, without translation."
 unfoldable pub cleaned : Side → VirtualAddress → Sent
@@ -153,4 +153,4 @@ lineFlushed c va = flushedAt c (find (c .lines) va)
 
 -- "(0,7) and (0,6) flush the Dcache"
 unfoldable pub allFlushed : Dcache → Dcache
-allFlushed c = record { lines = noLines; pointers = c .pointers; store = c .store }
+allFlushed c = withLines c noLines

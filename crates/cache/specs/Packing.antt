@@ -4,7 +4,7 @@ use Prim.Native.Nat.{ℕ, _+_, _*_, _/_, _%_, _<_, _≤_}
 use mathlib.Core.Path.{_≡_}
 use mathlib.Core.List.{List, map}
 use lib.ListN.{length, getD}
-use Rattle.values.specs.Tests.{bit}
+use Rattle.values.specs.Bits.{bit, number}
 use Rattle.values.specs.Addresses.{setOf, physicalLine}
 use Rattle.values.specs.declared.VirtualAddress.{VirtualAddress}
 use Rattle.values.specs.declared.PhysicalAddress.{PhysicalAddress}
@@ -12,9 +12,15 @@ use Rattle.values.specs.declared.Line.{Line}
 use Rattle.buffer.specs.Packing.{backingOf}
 use Rattle.buffer.specs.Ranges.{Fits}
 use Rattle.cache.specs.Dcache.{Side, Sent}
+use Rattle.cache.specs.Dcache.{sideFrom}
+use Rattle.cache.specs.Dcache.{dcacheFrom}
 
 unfoldable pub lineOf : ℕ → Line
-lineOf w = record { valid = bit w 0; tag = w / 4294967296; frame = w / 8 % 536870912; low = bit w 1; high = bit w 2 }
+lineOf w = record { valid = bit w 0; tag = w / 0x100000000; frame = w / 8 % 0x20000000; low = bit w 1; high = bit w 2 }
+
+-- the word of a line, the inverse of `lineOf`
+unfoldable pub wordOf : Line → ℕ
+wordOf l = number (l .valid) + 2 * (number (l .low) + 2 * (number (l .high) + 2 * (l .frame + 0x20000000 * l .tag)))
 
 -- the lines that words stand for
 abbrev pub linesOf : List ℕ → List Line
@@ -23,7 +29,7 @@ linesOf words = map lineOf words
 -- the side that the lent lists stand for
 abbrev pub sideOf : List ℕ → List ℕ → List (List ℕ) → ℕ → List ℕ → List ℕ → List ℕ → Side
 sideOf memory words bytes used lines pointers store =
-    record { cache = record { lines = linesOf lines; pointers = pointers; store = store }; backing = backingOf memory words bytes used }
+    (sideFrom (dcacheFrom (linesOf lines) pointers store) (backingOf memory words bytes used))
 
 -- what the code leaves is this side with so many halves sent out, and the buffer fits
 pub record SentIs (memory words : List ℕ) (bytes : List (List ℕ)) (used : ℕ) (lines pointers store : List ℕ) (halves : ℕ) (s : Sent) : Type 0 where
@@ -37,7 +43,7 @@ pub record HoldsLine (memory lines store : List ℕ) (i : ℕ) : Type 0 where
   pub store-long : length store ≡ 16384
   pub low : i < 512
   pub inside : lineOf (getD lines i 0) .frame * 32 + 32 ≤ length memory
-  pub short : length memory ≤ 16777216
+  pub short : length memory ≤ 0x1000000
 
 -- what the code asks of a fill: the lists' lengths, a pointer in range, and that the line that gives way and the line read lie inside memory
 pub record FillsLine (memory lines pointers store : List ℕ) (va : VirtualAddress) (pa : PhysicalAddress) : Type 0 where
@@ -47,4 +53,4 @@ pub record FillsLine (memory lines pointers store : List ℕ) (va : VirtualAddre
   pub pointer : getD pointers (setOf va) 0 < 32
   pub victim-inside : lineOf (getD lines (setOf va * 32 + getD pointers (setOf va) 0) 0) .frame * 32 + 32 ≤ length memory
   pub inside : physicalLine pa * 32 + 32 ≤ length memory
-  pub short : length memory ≤ 16777216
+  pub short : length memory ≤ 0x1000000

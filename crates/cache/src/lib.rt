@@ -2,8 +2,9 @@
 ghost use mathlib.Core.Path.{_≡_};
 ghost use mathlib.Core.Bool.{true};
 ghost use mathlib.Core.List.{List};
-ghost use Prim.Native.Nat.{ℕ, _+_, _*_, _%_, _<_, _≤_};
-ghost use lib.ListN.{length, set, take, drop};
+ghost use Prim.Native.Nat.{ℕ, _+_, _*_, _/_, _%_, _<_, _≤_};
+ghost use lib.ListN.{length, getD, set, take, drop};
+ghost use Rattle.values.specs.Lists.{firstFrom};
 ghost use Rattle.values.specs.Empty.{emptyLine, noLines};
 ghost use Rattle.words.specs.Words.{isWidth, Loaded};
 ghost use Rattle.buffer.specs.Buffer.{ready};
@@ -11,50 +12,63 @@ ghost use Rattle.buffer.specs.Packing.{backingOf};
 ghost use Rattle.buffer.specs.Ranges.{Fits, Left};
 ghost use Rattle.cache.specs.Dcache as spec;
 ghost use Rattle.cache.specs.Packing.{lineOf, linesOf, sideOf, SentIs, HoldsLine, FillsLine};
+ghost use Rattle.cache.specs.Dcache.{dcacheFrom};
+use values::Count;
 use values::Line;
 use values::PhysicalAddress;
 use values::Search;
 use values::VirtualAddress;
 
 // The line that a word stands for.
-pub fn line_of(w: u64) -> Line
+fn line_of(w: u64) -> Line
     ensures { λ r. ⌜ r ≡ lineOf w ⌝ }
 {
     Line {
         valid: w % 2 == 1,
-        tag: (w / 4294967296) as u32,
-        frame: (w / 8 % 536870912) as u32,
+        tag: (w / 0x100000000) as u32,
+        frame: (w / 8 % 0x20000000) as u32,
         low: w / 2 % 2 == 1,
         high: w / 4 % 2 == 1,
     }
 }
 
-// Whether a word stands for a valid line with the tag.
-fn has_tag(w: u64, tag: u32) -> bool
-    ensures { λ r. ⌜ r ≡ spec.hasTag tag (lineOf w) ⌝ }
+// The first way from `from` on whose word has the tag, of a valid line or not, or 32.
+fn next_tag(lines: &[u64], base: usize, tag: u32, from: usize) -> usize
+    requires { ⌜ (length (now lines) ≡ 512) × (base ≤ 480) × (from ≤ 32) ⌝ }
+    ensures { λ r.
+        ⌜ (from ≤ r) × (r ≤ 32) × (r < 32 → getD (now (lines .entry)) (base + r) 0 / 0x100000000 ≡ tag)
+        × (firstFrom (spec.hasTag tag) (base + r) (drop r (take 32 (drop base (linesOf (now (lines .entry))))))
+        ≡ firstFrom (spec.hasTag tag) (base + from) (drop from (take 32 (drop base (linesOf (now (lines .entry))))))) ⌝ }
 {
-    if w % 2 == 1 {
-        return w / 4294967296 == tag as u64;
-    }
-    false
+    let mut i = from;
+    let found = loop {
+        if i == 32 {
+            break i;
+        }
+        if lines[base + i] / 0x100000000 == tag as u64 {
+            break i;
+        }
+        i += 1;
+    };
+    found
 }
 
-// The first line of the address's set that matches, even when the cache is disabled.
+// The first line of the address's set that matches, even when the cache is disabled. A word's valid bit is tested where its tag matches.
 pub fn find(lines: &[u64], va: VirtualAddress) -> Search
-    requires { ⌜ (length (now lines) ≡ 512) × (va .0 < 4294967296) ⌝ }
+    requires { ⌜ (length (now lines) ≡ 512) × (va .0 < 0x100000000) ⌝ }
     ensures { λ r. ⌜ r ≡ spec.find (linesOf (now (lines .entry))) va ⌝ }
 {
     let base = (va.0 / 32 % 16 * 32) as usize;
     let tag = va.0 / 512;
-    let mut i: usize = 0;
+    let mut i = next_tag(lines, base, tag, 0);
     let found = loop {
         if i == 32 {
             break Search::Nothing;
         }
-        if has_tag(lines[base + i], tag) {
+        if lines[base + i] % 2 == 1 {
             break Search::At(base + i);
         }
-        i += 1;
+        i = next_tag(lines, base, tag, i + 1);
     };
     found
 }
@@ -95,8 +109,8 @@ pub fn store(
     requires { ⌜ (length (now lines) ≡ 512) × (length (now bytes) ≡ 16384) × (i < 512) × (isWidth width ≡ true) × (va .0 % 32 + width ≤ 32) ⌝ }
     ensures { λ r.
         ⌜ ((pointers : List ℕ) → _≡_ {A = spec.Dcache}
-        (record { lines = linesOf (now (lines .exit)); pointers = pointers; store = now (bytes .exit) })
-        (spec.hitStore (record { lines = linesOf (now (lines .entry)); pointers = pointers; store = now (bytes .entry) }) i va width value)) ⌝ }
+        (dcacheFrom (linesOf (now (lines .exit))) pointers (now (bytes .exit)))
+        (spec.hitStore (dcacheFrom (linesOf (now (lines .entry))) pointers (now (bytes .entry))) i va width value)) ⌝ }
 {
     let offset = va.0 % 32;
     lines[i] = marked(lines[i], offset);
@@ -104,7 +118,7 @@ pub fn store(
 }
 
 // Sixteen bytes of the cache store.
-pub fn half_at(store: &[u8], at: usize) -> [u8; 16]
+fn half_at(store: &[u8], at: usize) -> [u8; 16]
     requires { ⌜ at + 16 ≤ length (now store) ⌝ }
     ensures { λ r. ⌜ r ≡ take 16 (drop at (now (store .entry))) ⌝ }
 {
@@ -118,7 +132,7 @@ pub fn half_at(store: &[u8], at: usize) -> [u8; 16]
 }
 
 // The 32 bytes of a line of memory go to the cache store.
-pub fn read_line(store: &mut [u8], at: usize, memory: &[u8], from: usize)
+fn read_line(store: &mut [u8], at: usize, memory: &[u8], from: usize)
     requires { ⌜ (at + 32 ≤ length (now store)) × (from + 32 ≤ length (now memory)) ⌝ }
     ensures { λ r. ⌜ now (store .exit) ≡ spec.copied (now (store .entry)) at (now (memory .entry)) from 32 ⌝ }
 {
@@ -173,7 +187,7 @@ fn send_half(
 }
 
 // A line's dirty halves go to the buffer, low half first. It answers the number of entries.
-pub fn send_halves(
+fn send_halves(
     memory: &mut [u8],
     words: &mut [u64],
     bytes: &mut [[u8; 16]],
@@ -182,7 +196,8 @@ pub fn send_halves(
     store: &[u8],
     at: usize,
 ) -> usize
-    requires { ⌜ Fits (now memory) (now words) (now bytes) used × (l .frame * 32 + 32 ≤ length (now memory)) × (length (now memory) ≤ 16777216) × (at + 32 ≤ length (now store)) ⌝ }
+    requires { ⌜ Fits (now memory) (now words) (now bytes) used × (l .frame * 32 + 32 ≤ length (now memory)) × (length (now memory) ≤ 0x1000000)
+        × (at + 32 ≤ length (now store)) ⌝ }
     ensures { λ r.
         ⌜ Left (now (memory .exit)) (now (words .exit)) (now (bytes .exit)) r
         (spec.halvesSent (backingOf (now (memory .entry)) (now (words .entry)) (now (bytes .entry)) used) l (now (store .entry)) at) ⌝ }
@@ -210,11 +225,11 @@ fn cleaned_word(w: u64) -> u64
 // How many entries the buffer then has, and how many halves were sent out.
 pub struct Sent {
     pub used: usize,
-    pub halves: u32,
+    pub halves: Count,
 }
 
 // How many halves of a line are dirty.
-fn dirty_halves(l: Line) -> u32
+fn dirty_halves(l: Line) -> Count
     ensures { λ r. ⌜ r ≡ spec.dirtyHalves l ⌝ }
 {
     values::bit_number(l.low) + values::bit_number(l.high)
@@ -232,8 +247,10 @@ pub fn clean_line(
 ) -> Sent
     requires { ⌜ Fits (now memory) (now words) (now bytes) used × HoldsLine (now memory) (now lines) (now store) i ⌝ }
     ensures { λ r.
-        ⌜ ((pointers : List ℕ) → SentIs (now (memory .exit)) (now (words .exit)) (now (bytes .exit)) (r .used) (now (lines .exit)) pointers (now (store .entry)) (r .halves)
-        (spec.cleanedAt (sideOf (now (memory .entry)) (now (words .entry)) (now (bytes .entry)) used (now (lines .entry)) pointers (now (store .entry))) (Search.At i))) ⌝ }
+        ⌜ ((pointers : List ℕ)
+        → SentIs (now (memory .exit)) (now (words .exit)) (now (bytes .exit)) (r .used) (now (lines .exit)) pointers (now (store .entry)) (r .halves)
+        (spec.cleanedAt (sideOf (now (memory .entry)) (now (words .entry)) (now (bytes .entry)) used (now (lines .entry)) pointers (now (store .entry)))
+        (Search.At i))) ⌝ }
 {
     let w = lines[i];
     let l = line_of(w);
@@ -247,10 +264,10 @@ pub fn clean_line(
 
 // The word of a valid clean line.
 fn line_word(tag: u32, frame: u32) -> u64
-    requires { ⌜ frame < 536870912 ⌝ }
+    requires { ⌜ frame < 0x20000000 ⌝ }
     ensures { λ r. ⌜ lineOf r ≡ spec.freshLine tag frame ⌝ }
 {
-    (tag as u64) * 4294967296 + (frame as u64) * 8 + 1
+    (tag as u64) * 0x100000000 + (frame as u64) * 8 + 1
 }
 
 // A line gives way: its dirty halves go to the buffer, and the buffer is drained if an entry masks a byte of the frame to be read.
@@ -264,10 +281,12 @@ fn give_way(
     at: usize,
     frame: u32,
 ) -> usize
-    requires { ⌜ Fits (now memory) (now words) (now bytes) used × (l .frame * 32 + 32 ≤ length (now memory)) × (length (now memory) ≤ 16777216) × (at + 32 ≤ length (now store)) ⌝ }
+    requires { ⌜ Fits (now memory) (now words) (now bytes) used × (l .frame * 32 + 32 ≤ length (now memory)) × (length (now memory) ≤ 0x1000000)
+        × (at + 32 ≤ length (now store)) ⌝ }
     ensures { λ r.
         ⌜ Left (now (memory .exit)) (now (words .exit)) (now (bytes .exit)) r
-        (ready (spec.halvesSent (backingOf (now (memory .entry)) (now (words .entry)) (now (bytes .entry)) used) l (now (store .entry)) at) (frame * 32) 32) ⌝ }
+        (ready (spec.halvesSent (backingOf (now (memory .entry)) (now (words .entry)) (now (bytes .entry)) used) l (now (store .entry)) at) (frame * 32) 32)
+        ⌝ }
 {
     let n = send_halves(memory, words, bytes, used, l, store, at);
     buffer::ready_line(memory, words, bytes, n, frame)
@@ -287,8 +306,11 @@ pub fn fill(
 ) -> Sent
     requires { ⌜ Fits (now memory) (now words) (now bytes) used × FillsLine (now memory) (now lines) (now pointers) (now store) va pa ⌝ }
     ensures { λ r.
-        ⌜ SentIs (now (memory .exit)) (now (words .exit)) (now (bytes .exit)) (r .used) (now (lines .exit)) (now (pointers .exit)) (now (store .exit)) (r .halves)
-        (spec.filled (sideOf (now (memory .entry)) (now (words .entry)) (now (bytes .entry)) used (now (lines .entry)) (now (pointers .entry)) (now (store .entry))) va pa) ⌝ }
+        ⌜ SentIs (now (memory .exit)) (now (words .exit)) (now (bytes .exit)) (r .used) (now (lines .exit)) (now (pointers .exit)) (now (store .exit))
+        (r .halves)
+        (spec.filled
+        (sideOf (now (memory .entry)) (now (words .entry)) (now (bytes .entry)) used (now (lines .entry)) (now (pointers .entry)) (now (store .entry)))
+        va pa) ⌝ }
 {
     let s = (va.0 / 32 % 16) as usize;
     let p = pointers[s];

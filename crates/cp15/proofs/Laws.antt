@@ -1,5 +1,5 @@
 -- The cases of a CP15 write's operation, and what the code of each leaves.
-use Prim.Native.Nat.{ℕ, _+_, _<_}
+use Prim.Native.Nat.{ℕ, _+_, _<_, _≤_}
 use native.Mathlib.Nat.{add-zero}
 use mathlib.Core.Bool.{true, false, _||_}
 use mathlib.Core.Path.{_≡_, ap}
@@ -17,16 +17,19 @@ use Rattle.tlb.specs.Packing.{entriesOf}
 use Rattle.buffer.specs.Buffer.{Backing, drained}
 use Rattle.buffer.specs.Packing.{backingOf}
 use Rattle.buffer.specs.Ranges.{Left}
-use Rattle.cache.specs.Dcache.{Dcache, Side, find, lineFlushed, flushedAt, allFlushed, cleaned, cleanedAt}
+use Rattle.cache.specs.Dcache.{Dcache, Side, dcacheFrom, sideFrom, find, lineFlushed, flushedAt, allFlushed, cleaned, cleanedAt}
 use Rattle.cache.specs.Packing.{linesOf, sideOf, SentIs, HoldsLine}
 use Rattle.cache.proofs.Lines.{line-at}
 use Rattle.cache.proofs.Finds.{found}
-use Rattle.registers.specs.Refusals.{isPair}
+use Rattle.registers.specs.Pairs.{isPair}
 use Rattle.registers.specs.Registers.{writtenOf}
-use Rattle.sound.specs.Machine.{Machine}
-use Rattle.access.specs.declared.Small.{Small}
-use Rattle.access.specs.Access.{Stepped, withCache, withEntries}
-use Rattle.access.specs.Code.{Lists, machineOf, steppedOf, CleanReady}
+use Rattle.values.specs.Counts.{countLimit, sent}
+use Rattle.machine.specs.Machine.{Machine, machineFrom, withCache, withEntries, Stepped, answersZero}
+use Rattle.machine.specs.Machine as machines
+use Rattle.machine.specs.Scalars.{withCounts, withUsed, withRegisters, outcomeFrom}
+use Rattle.machine.specs.declared.Scalars.{Scalars}
+use Rattle.machine.specs.Lists.{Lists, lists, machineOf, steppedOf}
+use Rattle.machine.specs.Ready.{CleanReady}
 use Rattle.cp15.specs.Operations.{operated, cleanedLine, drainedAll, write}
 
 -- ---- which operation a pair asks for
@@ -79,7 +82,7 @@ module _ (m : Machine) (t : Transfer) (va : VirtualAddress) where
 -- the flush of one line
 module _ (ws ps st : List ℕ) (va : VirtualAddress) where
   abbrev cache-of : List ℕ → Dcache
-  cache-of ls = record { lines = linesOf ls; pointers = ps; store = st }
+  cache-of ls = dcacheFrom (linesOf ls) ps st
 
   pub line-flushed : (us : List ℕ) (i : ℕ) → find (linesOf ws) va ≡ At i → linesOf us ≡ set (linesOf ws) i emptyLine
       → cache-of us ≡ lineFlushed (cache-of ws) va
@@ -91,7 +94,7 @@ module _ (ws ps st : List ℕ) (va : VirtualAddress) where
   none-flushed e = rw e
 
 -- a line that is found can be cleaned
-pub can-clean : (memory words : List ℕ) (bytes : List (List ℕ)) (lines store : List ℕ) (s : Small) (va : VirtualAddress) (i : ℕ)
+pub can-clean : (memory words : List ℕ) (bytes : List (List ℕ)) (lines store : List ℕ) (s : Scalars) (va : VirtualAddress) (i : ℕ)
     → CleanReady memory words bytes lines store s → find (linesOf lines) va ≡ At i → HoldsLine memory lines store i
 can-clean memory words bytes lines store s va i k e =
     let f = found (linesOf lines) va i e in
@@ -103,86 +106,48 @@ can-clean memory words bytes lines store s va i k e =
       short = k .short;
     }
 
--- the small parts with more halves sent out
-abbrev pub sentSmall : Small → ℕ → ℕ → Small
-sentSmall s used halves =
-    record {
-      cp15 = s .cp15;
-      counts = record {
-        calls = s .counts .calls;
-        misses = s .counts .misses;
-        hits = s .counts .hits;
-        fills = s .counts .fills;
-        halves = s .counts .halves + halves;
-      };
-      used = used;
-    }
+-- the scalars with more halves sent out, and so many buffer entries
+abbrev pub sentBy : Scalars → ℕ → ℕ → Scalars
+sentBy s used halves = withUsed (withCounts s (sent (s .counts) halves)) used
 
-module _ (es : List ℕ) (s : Small) (n : ℕ) (l : Lists) (va : VirtualAddress) where
+module _ (es : List ℕ) (s : Scalars) (n : ℕ) (l : Lists) (va : VirtualAddress) where
   abbrev side-of : Side
   side-of = sideOf (l .memory) (l .words) (l .bytes) (s .used) (l .lines) (l .pointers) (l .store)
 
-  pub clean-left : (k : Lists) (i used halves : ℕ) (small : Small) → find (linesOf (l .lines)) va ≡ At i
+  pub clean-left : (k : Lists) (i used halves : ℕ) (r : Scalars) → find (linesOf (l .lines)) va ≡ At i
       → SentIs (k .memory) (k .words) (k .bytes) used (k .lines) (k .pointers) (k .store) halves (cleanedAt side-of (At i))
-      → small ≡ sentSmall s used halves → machineOf k es small n ≡ cleanedLine (machineOf l es s n) va
+      → r ≡ sentBy s used halves → machineOf k es r n ≡ cleanedLine (machineOf l es s n) va
   unfolding cleaned
-  clean-left k i used halves small e f g =
-      rw (g, f .count, e, add-zero (s .counts .calls), add-zero (s .counts .misses), add-zero (s .counts .hits), add-zero (s .counts .fills))
-      (ap made (f .side))
+  clean-left k i used halves r e f g = rw (g, f .count, e) (ap made (f .side))
     where
       made : Side → Machine
-      made t =
-          record {
-            cp15 = s .cp15;
-            entries = entriesOf es;
-            side = t;
-            counts = sentSmall s used (cleanedAt side-of (At i) .halves) .counts;
-            size = n;
-          }
+      made t = machineFrom (s .cp15) (entriesOf es) t (sent (s .counts) (cleanedAt side-of (At i) .halves)) n
 
   pub none-clean : find (linesOf (l .lines)) va ≡ Nothing → machineOf l es s n ≡ cleanedLine (machineOf l es s n) va
   unfolding cleaned cleanedAt
   none-clean e =
-      rw (e, add-zero (s .counts .calls), add-zero (s .counts .misses), add-zero (s .counts .hits), add-zero (s .counts .fills), add-zero (s .counts .halves))
+      rw (e, add-zero (s .counts .halves))
 
 -- the halves of a line that is cleaned have room in their count
-pub clean-room : (memory words : List ℕ) (bytes : List (List ℕ)) (lines store ps : List ℕ) (s : Small) (i halves : ℕ)
+pub clean-room : (memory words : List ℕ) (bytes : List (List ℕ)) (lines store ps : List ℕ) (s : Scalars) (i halves : ℕ)
     → CleanReady memory words bytes lines store s → i < 512
-    → halves ≡ cleanedAt (sideOf memory words bytes (s .used) lines ps store) (At i) .halves → s .counts .halves + halves < 4294967296
+    → halves ≡ cleanedAt (sideOf memory words bytes (s .used) lines ps store) (At i) .halves → s .counts .halves + halves ≤ countLimit
 unfolding cleanedAt
 clean-room memory words bytes lines store ps s i halves k h e = rw (e, line-at lines i) (k .halves i h)
 
-pub drain-left : (es : List ℕ) (s : Small) (n : ℕ) (l : Lists) (m ws : List ℕ) (bs : List (List ℕ))
+pub drain-left : (es : List ℕ) (s : Scalars) (n : ℕ) (l : Lists) (m ws : List ℕ) (bs : List (List ℕ))
     → Left m ws bs 0 (drained (backingOf (l .memory) (l .words) (l .bytes) (s .used)))
-    → machineOf (record { memory = m; words = ws; bytes = bs; lines = l .lines; pointers = l .pointers; store = l .store }) es
-    (record { cp15 = s .cp15; counts = s .counts; used = 0 }) n
-    ≡ drainedAll (machineOf l es s n)
+    → machineOf (lists m ws bs (l .lines) (l .pointers) (l .store)) es (withUsed s 0) n ≡ drainedAll (machineOf l es s n)
 drain-left es s n l m ws bs e =
-    ap (λ (b : Backing). record {
-      cp15 = s .cp15;
-      entries = entriesOf es;
-      side = record { cache = record { lines = linesOf (l .lines); pointers = l .pointers; store = l .store }; backing = b };
-      counts = s .counts;
-      size = n;
-    }) (e .same)
+    ap (λ (b : Backing). machineFrom (s .cp15) (entriesOf es) (sideFrom (dcacheFrom (linesOf (l .lines)) (l .pointers) (l .store)) b) (s .counts) n)
+    (e .same)
 
 -- a write, once its operation is done
-pub write-left : (es fs : List ℕ) (s u : Small) (n : ℕ) (l k : Lists) (t : Transfer) (v : ℕ) (r : Registers) (small : Small)
+pub write-left : (es fs : List ℕ) (s u : Scalars) (n : ℕ) (l k : Lists) (t : Transfer) (v : ℕ) (r : Registers) (q : Scalars)
     → machineOf k fs u n ≡ operated (machineOf l es s n) t (record { 0 = v }) → r ≡ writtenOf (s .cp15 .registers) (t .register) v
-    → small ≡ record { cp15 = record { registers = r; pointer = u .cp15 .pointer }; counts = u .counts; used = u .used }
-    → steppedOf k fs n (record { small = small; answer = answer.Value 0 }) ≡ write (machineOf l es s n) t v
+    → q ≡ withRegisters u r → steppedOf k fs n (outcomeFrom q (answer.Value 0)) ≡ write (machineOf l es s n) t v
 unfolding write
-write-left es fs s u n l k t v r small e f g = rw (g, f) (ap made e)
+write-left es fs s u n l k t v r q e f g = rw (g, f) (ap made e)
   where
     made : Machine → Stepped
-    made m =
-        record {
-          machine = record {
-            cp15 = record { registers = writtenOf (s .cp15 .registers) (t .register) v; pointer = m .cp15 .pointer };
-            entries = m .entries;
-            side = m .side;
-            counts = m .counts;
-            size = m .size;
-          };
-          answer = answer.Value 0;
-        }
+    made m = answersZero (machines.withRegisters m (writtenOf (s .cp15 .registers) (t .register) v))

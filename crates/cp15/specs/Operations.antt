@@ -7,11 +7,10 @@ use Rattle.values.specs.declared.Transfer.{Transfer}
 use Rattle.tlb.specs.Tlb.{flushed, dropped}
 use Rattle.buffer.specs.Buffer.{drained}
 use Rattle.cache.specs.Dcache.{cleaned, lineFlushed, allFlushed}
-use Rattle.sound.specs.Machine.{Machine}
-use Rattle.access.specs.Access.{Stepped, withRegisters, withSide, withCache, withBacking, withEntries, more, answersZero}
-use Rattle.access.specs.Access as access
+use Rattle.values.specs.Counts.{sent}
+use Rattle.machine.specs.Machine.{Machine, withRegisters, withSide, withCache, withBacking, withEntries, withCounts, Stepped, steppedFrom, answersZero}
 use Rattle.values.specs.declared.Answer.the-variants as answer
-use Rattle.registers.specs.Refusals.{isPair}
+use Rattle.registers.specs.Pairs.{isPair}
 use Rattle.registers.specs.Registers.{readOf, writtenOf}
 
 -- which operation a served write of register 7 or 8 asks for
@@ -42,7 +41,7 @@ module _ (t : Transfer) where
 
 -- the halves that a clean sends out are counted
 abbrev pub cleanedLine : Machine → VirtualAddress → Machine
-cleanedLine m va = let s = cleaned (m .side) va in more (withSide m (s .side)) 0 0 0 0 (s .halves)
+cleanedLine m va = let s = cleaned (m .side) va in withCounts (withSide m (s .side)) (sent (m .counts) (s .halves))
 
 -- the buffer drained
 abbrev pub drainedAll : Machine → Machine
@@ -61,7 +60,7 @@ operated m t va =
 
 -- a CP15 read, and a CP15 write, that are served; a write answers 0
 unfoldable pub read : Machine → Transfer → Stepped
-read m t = record { machine = m; answer = answer.Value (readOf (m .cp15 .registers) (t .register)) }
+read m t = steppedFrom m (answer.Value (readOf (m .cp15 .registers) (t .register)))
 
 unfoldable pub write : Machine → Transfer → ℕ → Stepped
 write m t v = answersZero (withRegisters (operated m t (record { 0 = v })) (writtenOf (m .cp15 .registers) (t .register) v))

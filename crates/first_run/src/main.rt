@@ -1,10 +1,15 @@
-// A first run: a short list of calls on 64 KB of memory with page tables in it, what each answers, and the counts; then the same list on the plain
-// machine.
+// A first run: a short list of calls on 64 KB of memory with page tables in it, what each answers, and the counts; the same list on the plain
+// machine; then some calls one by one, and looks.
 
 ghost use mathlib.Core.Path.{_≡_};
 ghost use Prim.Native.Nat.{_<_};
 ghost use lib.ListN.{length};
+use sa110::State;
+use values::Answer;
 use values::Counts;
+use values::Cp15;
+use values::Fault;
+use values::VirtualAddress;
 
 // How many calls there are.
 const COUNT: usize = 17;
@@ -128,6 +133,12 @@ fn print_hex(n: u32) {
     print(&out);
 }
 
+// A byte in two hexadecimal digits.
+fn print_byte(b: u8) {
+    let out = [digit(b as u32 / 16), digit(b as u32 % 16)];
+    print(&out);
+}
+
 // A number below 100 in two decimal digits.
 fn print_two(n: u32)
     requires { ⌜ n < 100 ⌝ }
@@ -182,8 +193,8 @@ fn print_access(kind: u32, width: u32, a: u32, v: u32) {
     print(b"            ");
 }
 
-// An answer: kind × 2^32 + value.
-fn print_answer(code: u64) {
+// An answer of a run: kind × 2^32 + value.
+fn print_code(code: u64) {
     let kind = code / 4294967296;
     let value = (code % 4294967296) as u32;
     if kind == 0 {
@@ -202,6 +213,100 @@ fn print_answer(code: u64) {
     }
     print(b"  refused by ");
     print_two(value % 100);
+    print(b"\n");
+}
+
+// A signed number: its sign, and its amount in hexadecimal digits.
+fn print_signed(z: i32) {
+    if z < 0 {
+        print(b"-");
+        print_hex(1 + ((!z) as u32));
+    } else {
+        print(b"+");
+        print_hex(z as u32);
+    }
+}
+
+fn print_fault(f: Fault) {
+    let status = f.status;
+    let address = f.address;
+    print(b"  fault, status ");
+    print_two(values::status_number(status));
+    print(b" domain ");
+    print_two(f.domain % 100);
+    print(b" address ");
+    print_hex(address.0);
+}
+
+// An answer of a call.
+fn print_answer(a: Answer) {
+    match a {
+        Answer::Value(v) => {
+            print(b"  value ");
+            print_hex(v);
+        },
+        Answer::Signed(z) => {
+            print(b"  signed ");
+            print_signed(z);
+        },
+        Answer::Fault(f) => print_fault(f),
+        Answer::Refused(n) => {
+            print(b"  refused by ");
+            print_two(n % 100);
+        },
+    }
+}
+
+// What a run or a call leaves beside the lent bytes.
+struct Left {
+    state: State,
+    cp15: Cp15,
+}
+
+// Makes one call, and prints it with its answer.
+fn one_call(
+    left: Left,
+    memory: &mut [u8],
+    store: &mut [u8],
+    kind: u32,
+    privileged: u32,
+    n: u32,
+    a: u32,
+    v: u32,
+) -> Left {
+    print_call(kind, privileged, n, a, v);
+    let c = trace::call_of(kind, privileged, n, a, v);
+    let called = sa110::call(left.state, left.cp15, memory, store, c);
+    let answer = called.answer;
+    print_answer(answer);
+    print(b"\n");
+    let state = called.state;
+    let cp15 = called.cp15;
+    Left { state, cp15 }
+}
+
+// The bytes of a part, in words of four, or that it is empty.
+fn print_part(part: &[u8]) {
+    if part.len() == 0 {
+        print(b" an empty part");
+        return;
+    }
+    let mut i: usize = 0;
+    while i < part.len() {
+        if i % 4 == 0 {
+            print(b" ");
+        }
+        print_byte(part[i]);
+        i += 1;
+    }
+}
+
+// Looks at an address, and prints the part.
+fn print_look<'a>(left: Left, memory: &'a [u8], store: &'a [u8], a: u32) {
+    print(b"look at ");
+    print_hex(a);
+    let part = sa110::look(left.state, left.cp15, memory, store, VirtualAddress(a));
+    print_part(part);
     print(b"\n");
 }
 
@@ -229,7 +334,7 @@ fn print_calls(calls: &[u32], answers: &[u64], others: &[u64])
             calls[i * 5 + 3],
             calls[i * 5 + 4],
         );
-        print_answer(answers[i]);
+        print_code(answers[i]);
         if others[i] != answers[i] {
             print(b"  the plain machine answers something else\n");
         }
@@ -277,4 +382,15 @@ fn main() {
     print(b"plain machine: calls counted ");
     print_two(left.calls % 100);
     print(b"\n");
+    // calls one by one, on what the run left
+    let cp15 = ran.cp15;
+    let start = Left { state, cp15 };
+    let first = one_call(start, &mut memory, &mut store, 1, 1, 1, 1048595, 0);
+    let second = one_call(first, &mut memory, &mut store, 0, 1, 2, 2098304, 0);
+    let third = one_call(second, &mut memory, &mut store, 0, 0, 4, 2098304, 0);
+    let fourth = one_call(third, &mut memory, &mut store, 2, 1, 1, 1048592, 256);
+    // looks: into the cache store, into memory, and where nothing is mapped
+    print_look(fourth, &memory, &store, 1048592);
+    print_look(fourth, &memory, &store, 1064964);
+    print_look(fourth, &memory, &store, 3145728);
 }

@@ -1,1 +1,2 @@
 mod Borrows
+pub mod Calls

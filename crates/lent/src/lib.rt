@@ -1,15 +1,15 @@
 // Functions for C and Rust over a lent state and record, which a call changes in place.
 ghost use mathlib.Core.Path.{_≡_};
 ghost use Rattle.step.specs.Start.{started};
-ghost use Rattle.step.specs.Batch as batch;
+ghost use Rattle.step.specs.Run as runs;
 ghost use Rattle.sa110.specs.State.{machineIn, ranOf, startedOf};
-ghost use Rattle.host.specs.Coded as coded;
+ghost use Rattle.lent.specs.Coded as coded;
 use sa110::State;
 use values::Cp15;
 
 // The start: a fresh state and a record of zeros, or refusal 1 or 2 with a state all zeros.
 #[no_mangle]
-pub extern "C" fn sa110_start_lent(
+pub extern "C" fn sa110_start(
     state: &mut State,
     cp15: &mut Cp15,
     memory: &[u8],
@@ -25,9 +25,45 @@ pub extern "C" fn sa110_start_lent(
     r.refusal
 }
 
+// What a call leaves beside the lent bytes, its answer as one number.
+pub struct Answered {
+    pub state: State,
+    pub cp15: Cp15,
+    pub code: u64,
+}
+
+// A call of five numbers, state and record by value: a run over a list of that call. A run leaves the answer as it is where the numbers are no call.
+fn call_numbers(
+    state: State,
+    cp15: Cp15,
+    memory: &mut [u8],
+    store: &mut [u8],
+    kind: u32,
+    privileged: u32,
+    n: u32,
+    a: u32,
+    v: u32,
+) -> Answered
+    ensures { λ r.
+        ⌜ coded.answeredOf (now (memory .exit)) (now (store .exit)) r
+        ≡ coded.calledBy (machineIn (now (memory .entry)) (now (store .entry)) state cp15) kind privileged n a v ⌝ }
+{
+    let calls = [kind, privileged, n, a, v];
+    let mut answers = [12884901888u64; 1];
+    let r = sa110::run(state, cp15, memory, store, &calls, &mut answers);
+    let after = r.state;
+    let left = r.cp15;
+    let code = answers[0];
+    Answered {
+        state: after,
+        cp15: left,
+        code,
+    }
+}
+
 // A call of five numbers.
 #[no_mangle]
-pub extern "C" fn sa110_call_lent(
+pub extern "C" fn sa110_call(
     state: &mut State,
     cp15: &mut Cp15,
     memory: &mut [u8],
@@ -42,7 +78,7 @@ pub extern "C" fn sa110_call_lent(
         ⌜ coded.answeredOf (now (memory .exit)) (now (store .exit)) (record { state = now (state .exit); cp15 = now (cp15 .exit); code = r })
         ≡ coded.calledBy (machineIn (now (memory .entry)) (now (store .entry)) (now (state .entry)) (now (cp15 .entry))) kind privileged n a v ⌝ }
 {
-    let r = host::sa110_call(*state, *cp15, memory, store, kind, privileged, n, a, v);
+    let r = call_numbers(*state, *cp15, memory, store, kind, privileged, n, a, v);
     *state = r.state;
     *cp15 = r.cp15;
     r.code
@@ -50,7 +86,7 @@ pub extern "C" fn sa110_call_lent(
 
 // A run over a list of calls, five numbers each: how many calls were made.
 #[no_mangle]
-pub extern "C" fn sa110_run_lent(
+pub extern "C" fn sa110_run(
     state: &mut State,
     cp15: &mut Cp15,
     memory: &mut [u8],
@@ -60,7 +96,8 @@ pub extern "C" fn sa110_run_lent(
 ) -> usize
     ensures { λ r.
         ⌜ ranOf (now (memory .exit)) (now (store .exit)) (now (answers .exit)) (record { state = now (state .exit); cp15 = now (cp15 .exit); made = r })
-        ≡ batch.run (machineIn (now (memory .entry)) (now (store .entry)) (now (state .entry)) (now (cp15 .entry))) (now (calls .entry)) (now (answers .entry)) ⌝ }
+        ≡ runs.run (machineIn (now (memory .entry)) (now (store .entry)) (now (state .entry)) (now (cp15 .entry)))
+        (now (calls .entry)) (now (answers .entry)) ⌝ }
 {
     let r = sa110::run(*state, *cp15, memory, store, calls, answers);
     *state = r.state;

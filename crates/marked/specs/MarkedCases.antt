@@ -1,7 +1,7 @@
 -- "Marked cases (hexadecimal)": M1 to M12, as calls with what they answer. "Memory 40000 bytes, table base 4000, domain register 5 unless
 -- stated": `runWith` begins with these registers; M1 to M3 and M11, whose answers do not depend on them, with those of a fresh start.
 use Prim.Native.Nat.{ℕ, _-_, _/_, _%_}
-use mathlib.Core.Bool.{true, false}
+use mathlib.Core.Bool.{Bool, true, false}
 use mathlib.Core.List.{List, [], _∷_, _++_}
 use mathlib.Core.Path.{_≡_}
 use lib.IntN.{pos, negsuc}
@@ -9,33 +9,40 @@ use lib.ListN.{replicate}
 use Rattle.values.specs.Addresses.{setOf, tagOf}
 use Rattle.values.specs.declared.VirtualAddress.{VirtualAddress}
 use Rattle.values.specs.declared.Call.{Call}
-use Rattle.values.specs.declared.Call.the-variants.{Load, SignedLoad, Store, Read, Write}
+use Rattle.values.specs.declared.Call.the-variants.{Read, Write}
+use Rattle.values.specs.declared.Call.the-variants as calls
+use Rattle.values.specs.declared.Kind.{Kind}
+use Rattle.values.specs.declared.Kind.the-variants.{Load, SignedLoad, Store}
+use Rattle.values.specs.Registers.{zeroRegisters, withControl, withBase, withDomains}
 use Rattle.values.specs.declared.Answer.{Answer}
 use Rattle.values.specs.declared.Answer.the-variants.{Value, Signed, Fault, Refused}
 use Rattle.values.specs.declared.Status.{Status}
 use Rattle.values.specs.declared.Status.the-variants.{Alignment, WalkFirst, TranslationSection, TranslationPage, DomainPage, PermissionSection, PermissionPage}
 use Rattle.walk.specs.Walk.{firstAddress, secondAddress}
-use Rattle.access.specs.Access.{withRegisters}
 use Rattle.step.specs.Start.{started}
 use Rattle.step.specs.Run.{answers}
+use Rattle.machine.specs.Machine.{withRegisters}
 
 -- ---- calls
 
--- privileged accesses and CP15 calls; a user load
+-- accesses and CP15 calls, privileged, and user accesses
+abbrev pub access : Bool → Kind → ℕ → ℕ → Call
+access privileged kind width a = calls.Access (record { kind = kind; privileged = privileged; width = width; address = record { 0 = a } })
+
 abbrev pub load : ℕ → ℕ → Call
-load width a = Load (record { privileged = true; width = width; address = record { 0 = a } })
+load width a = access true Load width a
 
 abbrev pub userLoad : ℕ → ℕ → Call
-userLoad width a = Load (record { privileged = false; width = width; address = record { 0 = a } })
+userLoad width a = access false Load width a
 
 abbrev pub signedLoad : ℕ → ℕ → Call
-signedLoad width a = SignedLoad (record { privileged = true; width = width; address = record { 0 = a } })
+signedLoad width a = access true SignedLoad width a
 
 abbrev pub store : ℕ → ℕ → ℕ → Call
-store width a v = Store (record { privileged = true; width = width; address = record { 0 = a } }) v
+store width a v = access true (Store v) width a
 
 abbrev pub userStore : ℕ → ℕ → ℕ → Call
-userStore width a v = Store (record { privileged = false; width = width; address = record { 0 = a } }) v
+userStore width a v = access false (Store v) width a
 
 abbrev pub read : ℕ → Call
 read n = Read (record { privileged = true; register = n; opcode = 0; crm = 0 })
@@ -50,7 +57,7 @@ zeros = replicate 0x40000 0
 
 -- a memory from the address `at` on: zeros up to the address a, the word v there, and then what follows it
 abbrev pub word : ℕ → ℕ → ℕ → List ℕ → List ℕ
-word at a v rest = replicate (a - at) 0 ++ (v % 256 ∷ v / 256 % 256 ∷ v / 65536 % 256 ∷ v / 16777216 ∷ rest)
+word at a v rest = replicate (a - at) 0 ++ (v % 256 ∷ v / 256 % 256 ∷ v / 0x10000 % 256 ∷ v / 0x1000000 ∷ rest)
 
 -- zeros from the address `at` up to the memory's end
 abbrev pub end : ℕ → List ℕ
@@ -63,7 +70,7 @@ run memory calls = answers (started memory (replicate 16384 0) .machine) calls
 -- the same with table base 4000 and these domain and control registers
 abbrev pub runWith : ℕ → ℕ → List ℕ → List Call → List Answer
 runWith domains control memory calls =
-    answers (withRegisters (started memory (replicate 16384 0) .machine) (record { control = control; base = 0x4000; domains = domains; fsr = 0; far = 0 })) calls
+    answers (withRegisters (started memory (replicate 16384 0) .machine) (withDomains (withBase (withControl zeroRegisters control) 0x4000) domains)) calls
 
 abbrev pub fault : Status → ℕ → ℕ → Answer
 fault status domain address = Fault (record { status = status; domain = domain; address = record { 0 = address } })

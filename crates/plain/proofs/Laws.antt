@@ -1,132 +1,196 @@
 -- The cases of the plain machine's step, and what each keeps.
-use Prim.Native.Nat.{ℕ, _%_, _<_, _≤_}
+use Prim.Native.Nat.{ℕ, _+_, _≤_}
 use native.Mathlib.Omega.{arith}
-use mathlib.Core.Bool.{Bool, true, false}
-use mathlib.Core.Path.{_≡_, sym, _∙_, ap, subst}
+use mathlib.Core.Bool.{true, false}
+use mathlib.Core.Path.{_≡_, refl, sym, _∙_, ap, subst}
+use mathlib.Core.List.{List, [], _∷_}
+use mathlib.Core.Logic.{⊎-elim}
 use lib.Dec.{eqb}
 use lib.ListN.{length}
-use borrow.Author.Tests.{lt-ltb, le-ltb, ne-eqb}
+use denote.Enum.Declared.{tagOf}
+use types.Run.{OneOf}
+use borrow.Author.Tests.{eqb-true, eqb-false, eq-eqb, ne-eqb}
 use Rattle.values.specs.Control.{kept}
+use Rattle.values.specs.Counts.{countLimit}
+use Rattle.values.specs.Kinds.{isStore}
 use Rattle.values.specs.declared.VirtualAddress.{VirtualAddress}
 use Rattle.values.specs.declared.Registers.{Registers}
+use Rattle.values.specs.declared.Kind.{Kind}
+use Rattle.values.specs.declared.Kind.the-variants.{Load, SignedLoad, Store}
 use Rattle.values.specs.declared.Access.{Access}
 use Rattle.values.specs.declared.Transfer.{Transfer}
 use Rattle.values.specs.declared.Call.{Call}
 use Rattle.values.specs.declared.Status.{Status}
+use Rattle.values.specs.declared.Status.the-variants.{Alignment}
 use Rattle.values.specs.declared.Answer.the-variants as answer
-use Rattle.values.proofs.Cases.{case}
-use Rattle.words.specs.Words.{valueAt, stored}
+use Rattle.values.proofs.Cases.{case, clash}
+use Rattle.values.proofs.Kind as kinds
+use Rattle.words.specs.Words.{valueAt}
 use Rattle.words.specs.Signed.{loadAnswer}
-use Rattle.words.proofs.Laws.{length-stored}
+use Rattle.words.proofs.Widths.{is-one}
+use Rattle.bus.specs.Physical.{physical, aborts}
+use Rattle.bus.proofs.Laws.{answers}
+use Rattle.translation.specs.Alignment.{alignmentFaults, cleared}
+use Rattle.translation.specs.Translation.{walkedOnly, checked, decision, decided}
 use Rattle.translation.specs.Faults.{fills, buffers, fillStatus, otherStatus, faultSet}
+use Rattle.translation.specs.declared.Decision.{Decision}
+use Rattle.translation.specs.declared.Translation.{Translation}
+use Rattle.translation.specs.declared.Translation.the-variants.{Flat}
 use Rattle.translation.specs.declared.Place.{Place}
 use Rattle.translation.specs.declared.Checked.{Checked}
-use Rattle.translation.specs.declared.Checked.the-variants.{Passed}
-use Rattle.registers.specs.Refusals.{callRefusal}
+use Rattle.translation.specs.declared.Checked.the-variants.{Passed, Denied}
 use Rattle.registers.specs.Registers.{writtenOf}
-use Rattle.plain.specs.Plain.{Plain, PlainStepped, plainFaulted, plainReach, plainLoadAt, plainStoreAt, plainWritten, plainLoad, plainStore, plainWrite, plainDone, plainly, plainRefusal, counted}
-use Rattle.plain.specs.Code.{Kept, Steps}
+use Rattle.refusals.specs.Refusals.{row5, callRows, callRefusal}
+use Rattle.refusals.proofs.Rows.{row-met, row-unmet}
+use Rattle.plain.specs.Plain.{Plain, PlainStepped, plainStepped, plainPhysical, plainFaulted, plainReach, plainLoad, plainStore, plainWritten}
+use Rattle.plain.specs.Plain.{plainPassed, plainAt, plainAccess, plainWrite, plainDone, plainBy, plainly, plainRefusal, counted}
+use Rattle.plain.specs.Code.{Kept, Steps, Inside}
 
 -- ---- loads and stores that pass
 
 module _ (p : Plain) (a : Access) (l : Place) where
-  module _ (signed : Bool) where
-    pub load-in : l .address .0 < length (p .memory) → plainLoadAt p signed a (Passed l)
-        ≡ record { plain = p; answer = loadAnswer signed (a .width) (valueAt (a .width) (p .memory) (l .address .0)) }
-    unfolding plainLoadAt
-    load-in h = rw (lt-ltb (l .address .0) (length (p .memory)) h)
+  pub load-in : aborts (plainPhysical p) (l .address) ≡ false
+      → plainLoad p a l ≡ plainStepped p (loadAnswer (a .kind) (a .width) (valueAt (a .width) (p .memory) (l .address .0)))
+  unfolding plainLoad
+  load-in h = rw h
 
-    module _ (h : length (p .memory) ≤ l .address .0) where
-      pub load-fill : fills (p .registers) l ≡ true → plainLoadAt p signed a (Passed l) ≡ plainFaulted p (fillStatus l) (l .domain) (a .address)
-      unfolding plainLoadAt
-      load-fill f = rw (le-ltb (l .address .0) (length (p .memory)) h, f)
+  module _ (h : aborts (plainPhysical p) (l .address) ≡ true) where
+    pub load-fill : fills (p .registers) l ≡ true → plainLoad p a l ≡ plainFaulted p (fillStatus l) (l .domain) (a .address)
+    unfolding plainLoad
+    load-fill f = rw (h, f)
 
-      pub load-other : fills (p .registers) l ≡ false
-          → plainLoadAt p signed a (Passed l) ≡ plainFaulted p (otherStatus l) (l .domain) (a .address)
-      unfolding plainLoadAt
-      load-other f = rw (le-ltb (l .address .0) (length (p .memory)) h, f)
+    pub load-other : fills (p .registers) l ≡ false → plainLoad p a l ≡ plainFaulted p (otherStatus l) (l .domain) (a .address)
+    unfolding plainLoad
+    load-other f = rw (h, f)
 
   module _ (v : ℕ) where
-    pub store-in : l .address .0 < length (p .memory)
-        → plainStoreAt p a v (Passed l) ≡ record { plain = plainWritten p a v l; answer = answer.Value 0 }
-    unfolding plainStoreAt
-    store-in h = rw (lt-ltb (l .address .0) (length (p .memory)) h)
+    pub store-in : aborts (plainPhysical p) (l .address) ≡ false → plainStore p a v l ≡ plainStepped (plainWritten p a v l) (answer.Value 0)
+    unfolding plainStore
+    store-in h = rw h
 
-    module _ (h : length (p .memory) ≤ l .address .0) where
-      pub store-drop : buffers (p .registers) l ≡ true → plainStoreAt p a v (Passed l) ≡ record { plain = p; answer = answer.Value 0 }
-      unfolding plainStoreAt
-      store-drop f = rw (le-ltb (l .address .0) (length (p .memory)) h, f)
+    module _ (h : aborts (plainPhysical p) (l .address) ≡ true) where
+      pub store-drop : buffers (p .registers) l ≡ true → plainStore p a v l ≡ plainStepped p (answer.Value 0)
+      unfolding plainStore
+      store-drop f = rw (h, f)
 
-      pub store-other : buffers (p .registers) l ≡ false
-          → plainStoreAt p a v (Passed l) ≡ plainFaulted p (otherStatus l) (l .domain) (a .address)
-      unfolding plainStoreAt
-      store-other f = rw (le-ltb (l .address .0) (length (p .memory)) h, f)
+      pub store-other : buffers (p .registers) l ≡ false → plainStore p a v l ≡ plainFaulted p (otherStatus l) (l .domain) (a .address)
+      unfolding plainStore
+      store-other f = rw (h, f)
+
+-- ---- by the access's kind
+
+-- a kind whose variant is the first or the second loads
+pub loads : (k : Kind) → OneOf (0 ∷ 1 ∷ []) (tagOf kinds.the-type k) → isStore k ≡ false
+loads Load h = refl
+loads SignedLoad h = refl
+loads (Store v) h = ⊎-elim (λ e. absurd (omega arith)) (λ e. absurd (omega arith)) h
+
+pub passed-load : (p : Plain) (a : Access) (l : Place) (k : Kind) → isStore k ≡ false → plainPassed p a l k ≡ plainLoad p a l
+passed-load p a l Load h = refl
+passed-load p a l SignedLoad h = refl
+passed-load p a l (Store v) h = clash {b = true} refl h
+
+-- an access whose word answers lies in memory whole: no access crosses a word
+pub inside-fits : (memory : List ℕ) (a : Access) (l : Place) → Inside memory a l → l .address .0 + a .width ≤ length memory
+unfolding cleared
+inside-fits memory a l i =
+    let h = answers (physical memory) (l .address) (i .answers) in
+    let e = i .placed .place .within in
+    case (eqb (a .width) 4)
+    (λ t. let k : a .width ≡ 4 = eqb-true (a .width) 4 t in let f = rw t at e in omega arith)
+    (λ t.
+    case (eqb (a .width) 2)
+    (λ u. let k : a .width ≡ 2 = eqb-true (a .width) 2 u in let f = rw (t, u) at e in omega arith)
+    (λ u. let k : a .width ≡ 1 = is-one (a .width) (i .placed .width) (eqb-false (a .width) 4 t) (eqb-false (a .width) 2 u) in omega arith))
 
 -- ---- by what alignment, translation and rights give
 
-module _ (p : Plain) (a : Access) (c : Checked) where
-  pub load-by : (signed : Bool) → plainReach p a false ≡ c → plainLoad p signed a ≡ plainLoadAt p signed a c
-  unfolding plainLoad
-  load-by signed e = ap (plainLoadAt p signed a) e
+module _ (r : Registers) (a : Access) (t : Translation) where
+  decided-misaligned : alignmentFaults r a ≡ true → decided r a t ≡ decision Flat (Denied Alignment 0)
+  unfolding decided
+  decided-misaligned h = rw h
 
-  pub store-by : (v : ℕ) → plainReach p a true ≡ c → plainStore p a v ≡ plainStoreAt p a v c
-  unfolding plainStore
-  store-by v e = ap (plainStoreAt p a v) e
+  decided-aligned : alignmentFaults r a ≡ false → decided r a t ≡ decision t (checked r a t)
+  unfolding decided
+  decided-aligned h = rw h
+
+module _ (p : Plain) (a : Access) where
+  abbrev walked : Translation
+  walked = walkedOnly (p .registers) (plainPhysical p) (cleared a)
+
+  pub reach-misaligned : alignmentFaults (p .registers) a ≡ true → plainReach p a ≡ Denied Alignment 0
+  unfolding plainReach
+  reach-misaligned h = ap (λ (d : Decision). d .checked) (decided-misaligned (p .registers) a walked h)
+
+  pub reach-aligned : alignmentFaults (p .registers) a ≡ false
+      → plainReach p a ≡ checked (p .registers) a (walkedOnly (p .registers) (plainPhysical p) (cleared a))
+  unfolding plainReach
+  reach-aligned h = ap (λ (d : Decision). d .checked) (decided-aligned (p .registers) a walked h)
+
+  pub access-by : (c : Checked) → plainReach p a ≡ c → plainAccess p a ≡ plainAt p a c
+  unfolding plainAccess
+  access-by c e = ap (plainAt p a) e
+
+  pub at-passed : (l : Place) → plainAt p a (Passed l) ≡ plainPassed p a l (a .kind)
+  unfolding plainAt
+  at-passed l = refl
+
+  pub at-denied : (s : Status) (d : ℕ) → plainAt p a (Denied s d) ≡ plainFaulted p s d (a .address)
+  unfolding plainAt
+  at-denied s d = refl
 
 -- ---- what is kept
 
-module _ (p : Plain) (k : Kept p) where
-  pub keep-faulted : (s : Status) (d : ℕ) (va : VirtualAddress) → Kept (plainFaulted p s d va .plain)
+module _ (p : Plain) (k : Kept (p .registers)) where
+  pub keep-faulted : (s : Status) (d : ℕ) (va : VirtualAddress) → Kept (plainFaulted p s d va .plain .registers)
   unfolding plainFaulted faultSet
-  keep-faulted s d va = record { base = k .base; control = k .control; whole = k .whole; short = k .short }
+  keep-faulted s d va = record { base = k .base; control = k .control }
 
-  pub keep-stored : (a : Access) (v : ℕ) (l : Place) → Kept (plainWritten p a v l)
-  keep-stored a v l =
-      let n : length (stored (a .width) (p .memory) (l .address .0) v) ≡ length (p .memory) = length-stored (a .width) (p .memory) (l .address .0) v in
-      record { base = k .base; control = k .control; whole = rw n (k .whole); short = rw n (k .short) }
-
-  keep-registers : (r : Registers) → r .base % 16384 ≡ 0 → r .control < 8192 → Kept (record { memory = p .memory; registers = r; calls = p .calls })
-  keep-registers r b c = record { base = b; control = c; whole = k .whole; short = k .short }
-
-  written-keeps : (n v : ℕ) → (writtenOf (p .registers) n v .base % 16384 ≡ 0) × (writtenOf (p .registers) n v .control < 8192)
+  written-keeps : (n v : ℕ) → Kept (writtenOf (p .registers) n v)
   unfolding writtenOf kept
   written-keeps n v =
-      case (eqb n 1) (λ e. rw e (k .base, omega arith))
-      (λ e1. case (eqb n 2) (λ e. rw (e1, e) (omega arith, k .control))
-      (λ e2. case (eqb n 3) (λ e. rw (e1, e2, e) (k .base, k .control))
-      (λ e3. case (eqb n 5) (λ e. rw (e1, e2, e3, e) (k .base, k .control))
-      (λ e5. case (eqb n 6) (λ e. rw (e1, e2, e3, e5, e) (k .base, k .control)) (λ e6. rw (e1, e2, e3, e5, e6) (k .base, k .control))))))
+      case (eqb n 1) (λ e. rw e (record { base = k .base; control = omega arith }))
+      (λ e1. case (eqb n 2) (λ e. rw (e1, e) (record { base = omega arith; control = k .control }))
+      (λ e2. case (eqb n 3) (λ e. rw (e1, e2, e) (record { base = k .base; control = k .control }))
+      (λ e3. case (eqb n 5) (λ e. rw (e1, e2, e3, e) (record { base = k .base; control = k .control }))
+      (λ e5. case (eqb n 6) (λ e. rw (e1, e2, e3, e5, e) (record { base = k .base; control = k .control })) (λ e6. rw (e1, e2, e3, e5, e6) k)))))
 
-  pub keep-written : (t : Transfer) (v : ℕ) → Kept (plainWrite p t v .plain)
+  pub keep-written : (t : Transfer) (v : ℕ) → Kept (plainWrite p t v .plain .registers)
   unfolding plainWrite
-  keep-written t v =
-      keep-registers (writtenOf (p .registers) (t .register) v) (written-keeps (t .register) v .0) (written-keeps (t .register) v .1)
-
-  pub keep-counted : Kept (counted p)
-  keep-counted = record { base = k .base; control = k .control; whole = k .whole; short = k .short }
+  keep-written t v = written-keeps (t .register) v
 
 -- ---- one call
 
 module _ (p : Plain) (c : Call) where
-  pub refused-five : p .calls ≡ 4294967295 → plainly p c ≡ record { plain = p; answer = answer.Refused 5 }
-  unfolding plainly plainRefusal
-  refused-five e = rw e
+  by-refusal : (n : ℕ) → plainRefusal p c ≡ n → plainly p c ≡ plainBy p c n
+  unfolding plainly
+  by-refusal n e = ap (plainBy p c) e
 
-  module _ (e : p .calls ≡ 4294967295 → ⊥) where
-    pub refused-by : (n : ℕ) → n ≡ callRefusal c → (n ≡ 0 → ⊥) → plainly p c ≡ record { plain = p; answer = answer.Refused n }
-    unfolding plainly plainRefusal
-    refused-by n f z = rw (ne-eqb (p .calls) 4294967295 e, ← f, ne-eqb n 0 z)
+  pub refused-five : p .calls ≡ countLimit → plainly p c ≡ plainStepped p (answer.Refused 5)
+  unfolding plainRefusal
+  refused-five e = by-refusal 5 (row-met (row5 (p .calls)) (callRows c) (eq-eqb (p .calls) countLimit e))
+
+  module _ (e : p .calls ≡ countLimit → ⊥) where
+    call-refused : plainRefusal p c ≡ callRefusal c
+    unfolding plainRefusal
+    call-refused = row-unmet (row5 (p .calls)) (callRows c) (ne-eqb (p .calls) countLimit e)
+
+    pub refused-by : (n : ℕ) → n ≡ callRefusal c → (n ≡ 0 → ⊥) → plainly p c ≡ plainStepped p (answer.Refused n)
+    refused-by n f z = by-refusal n (call-refused ∙ sym f) ∙ rw (ne-eqb n 0 z)
 
     pub not-refused : callRefusal c ≡ 0 → plainly p c ≡ plainDone (counted p) c
-    unfolding plainly plainRefusal
-    not-refused f = rw (ne-eqb (p .calls) 4294967295 e, f)
+    not-refused f = by-refusal 0 (call-refused ∙ f)
 
--- ---- a step that ends in a fault
+-- ---- steps
 
-pub fault-steps : (p : Plain) → Kept p → (x e : PlainStepped) (s t : Status) (d : ℕ) (va : VirtualAddress) → x ≡ plainFaulted p s d va → s ≡ t
-    → e ≡ plainFaulted p t d va → Steps x e
+pub steps-to : (x e : PlainStepped) → x ≡ e → Kept (e .plain .registers) → Steps x e
+steps-to x e q k = record { same = q; kept = subst (λ (y : PlainStepped). Kept (y .plain .registers)) (sym q) k }
+
+-- a step that ends in a fault
+pub fault-steps : (p : Plain) → Kept (p .registers) → (x e : PlainStepped) (s t : Status) (d : ℕ) (va : VirtualAddress) → x ≡ plainFaulted p s d va
+    → s ≡ t → e ≡ plainFaulted p t d va → Steps x e
 fault-steps p k x e s t d va q r u =
     record {
       same = q ∙ ap (λ (y : Status). plainFaulted p y d va) r ∙ sym u;
-      kept = subst (λ (y : PlainStepped). Kept (y .plain)) (sym q) (keep-faulted p k s d va);
+      kept = subst (λ (y : PlainStepped). Kept (y .plain .registers)) (sym q) (keep-faulted p k s d va);
     }

@@ -1,30 +1,32 @@
 -- "The plain machine gets the start's memory and each call's arguments, no answers." It has no TLB, cache or buffer.
 use Prim.Native.Nat.{ℕ, _+_}
-use mathlib.Core.Bool.{Bool, true, false, cond}
-use mathlib.Core.List.{List}
+use mathlib.Core.Bool.{cond}
+use mathlib.Core.List.{List, _∷_}
 use lib.Dec.{eqb}
-use lib.ListN.{length}
-use Rattle.values.specs.Empty.{zeroRegisters}
+use Rattle.values.specs.Registers.{zeroRegisters}
 use Rattle.values.specs.declared.VirtualAddress.{VirtualAddress}
 use Rattle.values.specs.declared.Registers.{Registers}
+use Rattle.values.specs.declared.Kind.{Kind}
+use Rattle.values.specs.declared.Kind.the-variants.{Load, SignedLoad, Store}
 use Rattle.values.specs.declared.Access.{Access}
 use Rattle.values.specs.declared.Transfer.{Transfer}
 use Rattle.values.specs.declared.Fault.{Fault}
 use Rattle.values.specs.declared.Status.{Status}
-use Rattle.values.specs.declared.Status.the-variants.{Alignment}
 use Rattle.values.specs.declared.Call.{Call}
-use Rattle.values.specs.declared.Call.the-variants.{Load, SignedLoad, Store, Read, Write}
+use Rattle.values.specs.declared.Call.the-variants.{Read, Write}
+use Rattle.values.specs.declared.Call.the-variants as calls
 use Rattle.values.specs.declared.Answer.{Answer}
 use Rattle.values.specs.declared.Answer.the-variants as answer
 use Rattle.words.specs.Words.{valueAt, stored}
 use Rattle.words.specs.Signed.{loadAnswer}
-use Rattle.translation.specs.Alignment.{alignmentFaults, cleared}
-use Rattle.translation.specs.Translation.{walkedOnly, checked}
-use Rattle.translation.specs.Faults.{inside, fills, buffers, fillStatus, otherStatus, faultSet}
+use Rattle.bus.specs.Physical.{Physical, physical, aborts}
+use Rattle.translation.specs.Alignment.{cleared}
+use Rattle.translation.specs.Translation.{walkedOnly, decided}
+use Rattle.translation.specs.Faults.{fills, buffers, fillStatus, otherStatus, faultSet}
 use Rattle.translation.specs.declared.Place.{Place}
 use Rattle.translation.specs.declared.Checked.{Checked}
 use Rattle.translation.specs.declared.Checked.the-variants.{Passed, Denied}
-use Rattle.registers.specs.Refusals.{countRefusal, callRefusal}
+use Rattle.refusals.specs.Refusals.{refusalIn, row5, callRows}
 use Rattle.registers.specs.Registers.{readOf, writtenOf}
 use Rattle.trace.specs.Fold.{answersOf, finalOf}
 
@@ -34,83 +36,95 @@ pub record Plain : Type 0 where
   pub registers : Registers
   pub calls : ℕ
 
+abbrev pub plainMachine : List ℕ → Registers → ℕ → Plain
+plainMachine memory registers calls = record { memory = memory; registers = registers; calls = calls }
+
 -- "all zero at first", on "the start's memory"
 unfoldable pub plainStart : List ℕ → Plain
-plainStart memory = record { memory = memory; registers = zeroRegisters; calls = 0 }
+plainStart memory = plainMachine memory zeroRegisters 0
 
+-- the plain machine with one part replaced
+abbrev pub withRegisters : Plain → Registers → Plain
+withRegisters p registers = plainMachine (p .memory) registers (p .calls)
+
+abbrev pub withMemory : Plain → List ℕ → Plain
+withMemory p memory = plainMachine memory (p .registers) (p .calls)
+
+-- what a call leaves: the plain machine, and its answer
 pub record PlainStepped : Type 0 where
   pub plain : Plain
   pub answer : Answer
 
-abbrev pub withRegisters : Plain → Registers → Plain
-withRegisters p r = record { memory = p .memory; registers = r; calls = p .calls }
+abbrev pub plainStepped : Plain → Answer → PlainStepped
+plainStepped p x = record { plain = p; answer = x }
 
 -- "A fault sets FSR and FAR as above."
 unfoldable pub plainFaulted : Plain → Status → ℕ → VirtualAddress → PlainStepped
 plainFaulted p s d address =
     let f : Fault = record { status = s; domain = d; address = address } in
-    record { plain = withRegisters p (faultSet (p .registers) f); answer = answer.Fault f }
+    plainStepped (withRegisters p (faultSet (p .registers) f)) (answer.Fault f)
 
--- "if M is set, walks its memory and checks rights, as above; else the address is flat"
-unfoldable pub plainTranslate : Registers → List ℕ → Access → Bool → Checked
-plainTranslate r memory a store = checked r (a .privileged) store (cleared a) (walkedOnly r memory (cleared a))
+-- physical memory as the bus sees it
+abbrev pub plainPhysical : Plain → Physical
+plainPhysical p = physical (p .memory)
 
--- "An access checks alignment and then"
-unfoldable pub plainReach : Plain → Access → Bool → Checked
-plainReach p a store =
-    cond (alignmentFaults (p .registers) a) (Denied Alignment 0) (plainTranslate (p .registers) (p .memory) a store)
+-- "An access checks alignment and then, if M is set, walks its memory and checks rights, as above; else the address is flat."
+unfoldable pub plainReach : Plain → Access → Checked
+plainReach p a = decided (p .registers) a (walkedOnly (p .registers) (plainPhysical p) (cleared a)) .checked
 
 -- "Inside memory a load reads". "Outside, ... a load faults with 4 or 6 if M, C and the page's C bit are set; any other access with 8 or 10."
-unfoldable pub plainLoadAt : Plain → Bool → Access → Checked → PlainStepped
-plainLoadAt p signed a (Denied s d) = plainFaulted p s d (a .address)
-plainLoadAt p signed a (Passed l) =
-    cond (inside (length (p .memory)) (l .address))
-    (record { plain = p; answer = loadAnswer signed (a .width) (valueAt (a .width) (p .memory) (l .address .0)) })
+unfoldable pub plainLoad : Plain → Access → Place → PlainStepped
+plainLoad p a l =
+    cond (aborts (plainPhysical p) (l .address))
     (plainFaulted p (cond (fills (p .registers) l) (fillStatus l) (otherStatus l)) (l .domain) (a .address))
+    (plainStepped p (loadAnswer (a .kind) (a .width) (valueAt (a .width) (p .memory) (l .address .0))))
 
 -- "and a store writes at once"
 abbrev pub plainWritten : Plain → Access → ℕ → Place → Plain
-plainWritten p a v l =
-    record { memory = stored (a .width) (p .memory) (l .address .0) v; registers = p .registers; calls = p .calls }
+plainWritten p a v l = withMemory p (stored (a .width) (p .memory) (l .address .0) v)
 
 -- "Outside, a store is dropped without a fault if M and W are set and the page's C or B is; ... any other access with 8 or 10."
-unfoldable pub plainStoreAt : Plain → Access → ℕ → Checked → PlainStepped
-plainStoreAt p a v (Denied s d) = plainFaulted p s d (a .address)
-plainStoreAt p a v (Passed l) =
-    cond (inside (length (p .memory)) (l .address)) (record { plain = plainWritten p a v l; answer = answer.Value 0 })
-    (cond (buffers (p .registers) l) (record { plain = p; answer = answer.Value 0 })
-    (plainFaulted p (otherStatus l) (l .domain) (a .address)))
+unfoldable pub plainStore : Plain → Access → ℕ → Place → PlainStepped
+plainStore p a v l =
+    cond (aborts (plainPhysical p) (l .address))
+    (cond (buffers (p .registers) l) (plainStepped p (answer.Value 0)) (plainFaulted p (otherStatus l) (l .domain) (a .address)))
+    (plainStepped (plainWritten p a v l) (answer.Value 0))
 
--- a load, a store, a CP15 read and a CP15 write; "CP15 calls act on its registers as above; writes to 7 and 8 do nothing."
-unfoldable pub plainLoad : Plain → Bool → Access → PlainStepped
-plainLoad p signed a = plainLoadAt p signed a (plainReach p a false)
+-- an access whose translation and rights pass, by its kind
+abbrev pub plainPassed : Plain → Access → Place → Kind → PlainStepped
+plainPassed p a l Load = plainLoad p a l
+plainPassed p a l SignedLoad = plainLoad p a l
+plainPassed p a l (Store v) = plainStore p a v l
 
-unfoldable pub plainStore : Plain → Access → ℕ → PlainStepped
-plainStore p a v = plainStoreAt p a v (plainReach p a true)
+unfoldable pub plainAt : Plain → Access → Checked → PlainStepped
+plainAt p a (Denied s d) = plainFaulted p s d (a .address)
+plainAt p a (Passed l) = plainPassed p a l (a .kind)
+
+-- an access, a CP15 read and a CP15 write; "CP15 calls act on its registers as above; writes to 7 and 8 do nothing."
+unfoldable pub plainAccess : Plain → Access → PlainStepped
+plainAccess p a = plainAt p a (plainReach p a)
 
 unfoldable pub plainRead : Plain → Transfer → PlainStepped
-plainRead p t = record { plain = p; answer = answer.Value (readOf (p .registers) (t .register)) }
+plainRead p t = plainStepped p (answer.Value (readOf (p .registers) (t .register)))
 
 unfoldable pub plainWrite : Plain → Transfer → ℕ → PlainStepped
-plainWrite p t v = record { plain = withRegisters p (writtenOf (p .registers) (t .register) v); answer = answer.Value 0 }
+plainWrite p t v = plainStepped (withRegisters p (writtenOf (p .registers) (t .register) v)) (answer.Value 0)
 
 abbrev pub plainDone : Plain → Call → PlainStepped
-plainDone p (Load a) = plainLoad p false a
-plainDone p (SignedLoad a) = plainLoad p true a
-plainDone p (Store a v) = plainStore p a v
+plainDone p (calls.Access a) = plainAccess p a
 plainDone p (Read t) = plainRead p t
 plainDone p (Write t v) = plainWrite p t v
 
 -- "It refuses by 5 to 12 alone, 5 by that count"
 unfoldable pub plainRefusal : Plain → Call → ℕ
-plainRefusal p c = countRefusal (p .calls) (callRefusal c)
+plainRefusal p c = refusalIn (row5 (p .calls) ∷ callRows c)
 
 -- "any other call adds one"
 abbrev pub counted : Plain → Plain
-counted p = record { memory = p .memory; registers = p .registers; calls = p .calls + 1 }
+counted p = plainMachine (p .memory) (p .registers) (p .calls + 1)
 
 abbrev pub plainBy : Plain → Call → ℕ → PlainStepped
-plainBy p c n = cond (eqb n 0) (plainDone (counted p) c) (record { plain = p; answer = answer.Refused n })
+plainBy p c n = cond (eqb n 0) (plainDone (counted p) c) (plainStepped p (answer.Refused n))
 
 -- one call of the plain machine; a refused one is "changing nothing"
 unfoldable pub plainly : Plain → Call → PlainStepped

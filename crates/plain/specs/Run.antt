@@ -4,14 +4,17 @@ use mathlib.Core.Bool.{cond}
 use mathlib.Core.List.{List}
 use lib.ListN.{length}
 use Rattle.values.specs.declared.Call.{Call}
-use Rattle.registers.specs.Refusals.{lengthFits}
-use Rattle.trace.specs.Fold.{callsIn, Left, leftOf}
+use Rattle.refusals.specs.Refusals.{lengthFits}
+use Rattle.trace.specs.Fold.{callsIn, Left, leaves, leftOf}
 use Rattle.plain.specs.Plain.{Plain, plainStart, plainNext, plainAnswered}
 
 -- what a run leaves, and the start's refusal 1 or 0
 pub record PlainLeft : Type 0 where
   pub left : Left Plain
   pub refusal : ℕ
+
+abbrev pub withRefusal : Left Plain → ℕ → PlainLeft
+withRefusal left refusal = record { left = left; refusal = refusal }
 
 -- what a list of calls leaves: the machine, the list of answers, and the number of calls made
 abbrev pub leftBy : Plain → List Call → List ℕ → Left Plain
@@ -21,5 +24,5 @@ leftBy = leftOf plainNext plainAnswered
 unfoldable pub plainRun : List ℕ → List ℕ → List ℕ → PlainLeft
 plainRun memory list answers =
     cond (lengthFits (length memory))
-    (record { left = leftBy (plainStart memory) (callsIn (min (length list / 5) (length answers)) list 0) answers; refusal = 0 })
-    (record { left = record { machine = plainStart memory; answers = answers; made = 0 }; refusal = 1 })
+    (withRefusal (leftBy (plainStart memory) (callsIn (min (length list / 5) (length answers)) list 0) answers) 0)
+    (withRefusal (leaves (plainStart memory) answers 0) 1)

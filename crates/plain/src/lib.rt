@@ -2,24 +2,25 @@
 ghost use mathlib.Core.Path.{_≡_};
 ghost use mathlib.Core.Bool.{true};
 ghost use mathlib.Core.List.{List};
-ghost use Prim.Native.Nat.{ℕ, _<_, _%_};
-ghost use lib.ListN.{length};
+ghost use Prim.Native.Nat.{ℕ, _<_};
 ghost use Rattle.rights.specs.Rights.{rightsTable};
 ghost use Rattle.words.specs.Words.{isWidth, valueAt};
 ghost use Rattle.words.specs.Signed.{loadAnswer};
-ghost use Rattle.translation.specs.Ranges.{CheckedIs, PlaceRanged};
+ghost use Rattle.translation.specs.Ranges.{CheckedIs};
 ghost use Rattle.translation.specs.Alignment as aligned;
-ghost use Rattle.registers.specs.Refusals as refused;
-ghost use Rattle.trace.specs.Fold.{callsIn};
+ghost use Rattle.refusals.specs.Refusals.{callRefusal};
+ghost use Rattle.trace.specs.Fold.{callsIn, Holds};
 ghost use Rattle.plain.specs.Plain as spec;
 ghost use Rattle.plain.specs.Run as runs;
-ghost use Rattle.plain.specs.Code.{plainOf, steppedOf, leftOf, Kept, Steps, Inside, Runs};
+ghost use Rattle.plain.specs.Code.{plainOf, steppedOf, plainLeft, Kept, Steps, Placed, Inside};
 use translation::Checked;
 use translation::Place;
 use values::Access;
 use values::Answer;
 use values::Call;
+use values::Count;
 use values::Fault;
+use values::Kind;
 use values::Registers;
 use values::Status;
 use values::Transfer;
@@ -28,7 +29,7 @@ use values::VirtualAddress;
 // The plain machine but for its memory: the five registers and the count of calls.
 pub struct PlainState {
     pub registers: Registers,
-    pub calls: u32,
+    pub calls: Count,
 }
 
 // A state and an answer.
@@ -60,103 +61,95 @@ fn faulted(s: PlainState, status: Status, domain: u32, address: VirtualAddress) 
 }
 
 // Alignment, translation and rights.
-fn reach(table: &[u8; 256], memory: &[u8], s: PlainState, a: Access, store: bool) -> Checked
-    requires { ⌜ (now table ≡ rightsTable) × Kept (plainOf (now memory) s) ⌝ }
-    ensures { λ r. ⌜ CheckedIs (aligned.cleared a) r (spec.plainReach (plainOf (now (memory .entry)) s) a store) ⌝ }
+fn reach(table: &[u8; 256], memory: &[u8], s: PlainState, a: Access) -> Checked
+    requires { ⌜ (now table ≡ rightsTable) × Kept (s .registers) × (isWidth (a .width) ≡ true) ⌝ }
+    ensures { λ c. ⌜ CheckedIs (aligned.cleared a) c (spec.plainReach (plainOf (now (memory .entry)) s) a) ⌝ }
 {
     let r = s.registers;
     if translation::faults_alignment(r, a) {
         return Checked::Denied(Status::Alignment, 0);
     }
-    translate(table, memory, r, a, store)
-}
-
-// Translation and rights.
-fn translate(table: &[u8; 256], memory: &[u8], r: Registers, a: Access, store: bool) -> Checked
-    requires { ⌜ (now table ≡ rightsTable) × (r .base % 16384 ≡ 0) ⌝ }
-    ensures { λ c. ⌜ CheckedIs (aligned.cleared a) c (spec.plainTranslate r (now (memory .entry)) a store) ⌝ }
-{
     let va = translation::cleared(a);
     let t = translation::walked_only(memory, r, va);
-    translation::check(table, r, a.privileged, store, va, t)
+    translation::check(table, r, a, t)
 }
 
 // The answer of a load inside memory.
-fn load_inside(memory: &[u8], signed: bool, a: Access, p: Place) -> Answer
-    requires { ⌜ Inside (length (now memory)) a p ⌝ }
-    ensures { λ r. ⌜ r ≡ loadAnswer signed (a .width) (valueAt (a .width) (now (memory .entry)) (p .address .0)) ⌝ }
+fn loaded(memory: &[u8], a: Access, p: Place) -> Answer
+    requires { ⌜ Inside (now memory) a p ⌝ }
+    ensures { λ r. ⌜ r ≡ loadAnswer (a .kind) (a .width) (valueAt (a .width) (now (memory .entry)) (p .address .0)) ⌝ }
 {
     let pa = p.address;
+    let k = a.kind;
     let v = words::load(memory, pa.0 as usize, a.width);
-    translation::load_answer(signed, a.width, v)
+    translation::load_answer(k, a.width, v)
 }
 
 // A load that passed, inside memory or outside.
-fn load_passed(memory: &[u8], s: PlainState, signed: bool, a: Access, p: Place) -> Outcome
-    requires { ⌜ Kept (plainOf (now memory) s) × (isWidth (a .width) ≡ true) × PlaceRanged (aligned.cleared a) p ⌝ }
-    ensures { λ r. ⌜ Steps (steppedOf (now (memory .entry)) r) (spec.plainLoadAt (plainOf (now (memory .entry)) s) signed a (Checked.Passed p)) ⌝ }
+fn load(memory: &[u8], s: PlainState, a: Access, p: Place) -> Outcome
+    requires { ⌜ Kept (s .registers) × Placed a p ⌝ }
+    ensures { λ r. ⌜ Steps (steppedOf (now (memory .entry)) r) (spec.plainLoad (plainOf (now (memory .entry)) s) a p) ⌝ }
 {
     let pa = p.address;
     let address = a.address;
     let r = s.registers;
-    if (pa.0 as usize) < memory.len() {
-        return Outcome {
-            state: s,
-            answer: load_inside(memory, signed, a, p),
-        };
+    if bus::aborts(memory, pa) {
+        if translation::fills(r, p) {
+            return faulted(s, translation::fill_status(p), p.domain, address);
+        }
+        return faulted(s, translation::other_status(p), p.domain, address);
     }
-    if translation::fills(r, p) {
-        return faulted(s, translation::fill_status(p), p.domain, address);
-    }
-    faulted(s, translation::other_status(p), p.domain, address)
-}
-
-// A load.
-fn load(table: &[u8; 256], memory: &[u8], s: PlainState, signed: bool, a: Access) -> Outcome
-    requires { ⌜ (now table ≡ rightsTable) × Kept (plainOf (now memory) s) × (isWidth (a .width) ≡ true) ⌝ }
-    ensures { λ r. ⌜ Steps (steppedOf (now (memory .entry)) r) (spec.plainLoad (plainOf (now (memory .entry)) s) signed a) ⌝ }
-{
-    let address = a.address;
-    let c = reach(table, memory, s, a, false);
-    match c {
-        Checked::Passed(p) => load_passed(memory, s, signed, a, p),
-        Checked::Denied(status, d) => faulted(s, status, d, address),
+    Outcome {
+        state: s,
+        answer: loaded(memory, a, p),
     }
 }
 
 // A store that passed, inside memory or outside.
-fn store_passed(memory: &mut [u8], s: PlainState, a: Access, v: u32, p: Place) -> Outcome
-    requires { ⌜ Kept (plainOf (now memory) s) × (isWidth (a .width) ≡ true) × PlaceRanged (aligned.cleared a) p ⌝ }
-    ensures { λ r. ⌜ Steps (steppedOf (now (memory .exit)) r) (spec.plainStoreAt (plainOf (now (memory .entry)) s) a v (Checked.Passed p)) ⌝ }
+fn store(memory: &mut [u8], s: PlainState, a: Access, v: u32, p: Place) -> Outcome
+    requires { ⌜ Kept (s .registers) × Placed a p ⌝ }
+    ensures { λ r. ⌜ Steps (steppedOf (now (memory .exit)) r) (spec.plainStore (plainOf (now (memory .entry)) s) a v p) ⌝ }
 {
     let pa = p.address;
     let address = a.address;
     let r = s.registers;
-    if (pa.0 as usize) < memory.len() {
-        words::store(memory, pa.0 as usize, a.width, v);
-        return Outcome {
-            state: s,
-            answer: Answer::Value(0),
-        };
+    if bus::aborts(memory, pa) {
+        if translation::buffers(r, p) {
+            return Outcome {
+                state: s,
+                answer: Answer::Value(0),
+            };
+        }
+        return faulted(s, translation::other_status(p), p.domain, address);
     }
-    if translation::buffers(r, p) {
-        return Outcome {
-            state: s,
-            answer: Answer::Value(0),
-        };
+    words::store(memory, pa.0 as usize, a.width, v);
+    Outcome {
+        state: s,
+        answer: Answer::Value(0),
     }
-    faulted(s, translation::other_status(p), p.domain, address)
 }
 
-// A store.
-fn store(table: &[u8; 256], memory: &mut [u8], s: PlainState, a: Access, v: u32) -> Outcome
-    requires { ⌜ (now table ≡ rightsTable) × Kept (plainOf (now memory) s) × (isWidth (a .width) ≡ true) ⌝ }
-    ensures { λ r. ⌜ Steps (steppedOf (now (memory .exit)) r) (spec.plainStore (plainOf (now (memory .entry)) s) a v) ⌝ }
+// An access that passed, by its kind.
+fn passed(memory: &mut [u8], s: PlainState, a: Access, p: Place) -> Outcome
+    requires { ⌜ Kept (s .registers) × Placed a p ⌝ }
+    ensures { λ r. ⌜ Steps (steppedOf (now (memory .exit)) r) (spec.plainPassed (plainOf (now (memory .entry)) s) a p (a .kind)) ⌝ }
+{
+    let k = a.kind;
+    match k {
+        Kind::Load | Kind::SignedLoad => load(memory, s, a, p),
+        Kind::Store(v) => store(memory, s, a, v, p),
+    }
+}
+
+// An access.
+fn access(table: &[u8; 256], memory: &mut [u8], s: PlainState, a: Access) -> Outcome
+    requires { ⌜ (now table ≡ rightsTable) × Kept (s .registers) × (isWidth (a .width) ≡ true) ⌝ }
+    ensures { λ r. ⌜ Steps (steppedOf (now (memory .exit)) r) (spec.plainAccess (plainOf (now (memory .entry)) s) a) ⌝ }
 {
     let address = a.address;
-    let c = reach(table, memory, s, a, true);
+    let c = reach(table, memory, s, a);
     match c {
-        Checked::Passed(p) => store_passed(memory, s, a, v, p),
+        Checked::Passed(p) => passed(memory, s, a, p),
         Checked::Denied(status, d) => faulted(s, status, d, address),
     }
 }
@@ -191,30 +184,28 @@ fn write(s: PlainState, t: Transfer, v: u32) -> Outcome
 
 // A call that is not refused.
 fn done(table: &[u8; 256], memory: &mut [u8], s: PlainState, c: Call) -> Outcome
-    requires { ⌜ (now table ≡ rightsTable) × Kept (plainOf (now memory) s) × (refused.callRefusal c ≡ 0) ⌝ }
+    requires { ⌜ (now table ≡ rightsTable) × Kept (s .registers) × (callRefusal c ≡ 0) ⌝ }
     ensures { λ r. ⌜ Steps (steppedOf (now (memory .exit)) r) (spec.plainDone (plainOf (now (memory .entry)) s) c) ⌝ }
 {
     match c {
-        Call::Load(a) => load(table, memory, s, false, a),
-        Call::SignedLoad(a) => load(table, memory, s, true, a),
-        Call::Store(a, v) => store(table, memory, s, a, v),
+        Call::Access(a) => access(table, memory, s, a),
         Call::Read(t) => read(s, t),
         Call::Write(t, v) => write(s, t, v),
     }
 }
 
 // One call.
-pub fn step(table: &[u8; 256], memory: &mut [u8], s: PlainState, c: Call) -> Outcome
-    requires { ⌜ (now table ≡ rightsTable) × Kept (plainOf (now memory) s) ⌝ }
+fn step(table: &[u8; 256], memory: &mut [u8], s: PlainState, c: Call) -> Outcome
+    requires { ⌜ (now table ≡ rightsTable) × Kept (s .registers) ⌝ }
     ensures { λ r. ⌜ Steps (steppedOf (now (memory .exit)) r) (spec.plainly (plainOf (now (memory .entry)) s) c) ⌝ }
 {
-    if s.calls == 4294967295 {
+    if s.calls == values::COUNT_LIMIT {
         return Outcome {
             state: s,
             answer: Answer::Refused(5),
         };
     }
-    let n = registers::call_refusal(c);
+    let n = refusals::call_refusal(c);
     if n != 0 {
         return Outcome {
             state: s,
@@ -240,13 +231,7 @@ pub struct Ran {
 fn zero_state() -> PlainState
     ensures { λ r. ⌜ ((m : List ℕ) → plainOf m r ≡ spec.plainStart m) ⌝ }
 {
-    let registers = Registers {
-        control: 0,
-        base: 0,
-        domains: 0,
-        fsr: 0,
-        far: 0,
-    };
+    let registers = values::zero_registers();
     PlainState {
         registers,
         calls: 0,
@@ -261,10 +246,10 @@ fn run_calls(
     answers: &mut [u64],
     n: usize,
 ) -> Ran
-    requires { ⌜ (now table ≡ rightsTable) × Runs (now memory) (now calls) (now answers) n ⌝ }
+    requires { ⌜ (now table ≡ rightsTable) × Holds (now calls) (now answers) n ⌝ }
     ensures { λ r.
-        ⌜ leftOf (now (memory .exit)) (now (answers .exit)) r
-        ≡ record { left = runs.leftBy (spec.plainStart (now (memory .entry))) (callsIn n (now (calls .entry)) 0) (now (answers .entry)); refusal = 0 } ⌝ }
+        ⌜ plainLeft (now (memory .exit)) (now (answers .exit)) r
+        ≡ runs.withRefusal (runs.leftBy (spec.plainStart (now (memory .entry))) (callsIn n (now (calls .entry)) 0) (now (answers .entry))) 0 ⌝ }
 {
     let mut s = zero_state();
     let mut i: usize = 0;
@@ -295,24 +280,17 @@ fn run_calls(
 // no call. A memory whose length does not fit is refused, and nothing changes.
 pub fn run(memory: &mut [u8], calls: &[u32], answers: &mut [u64]) -> Ran
     ensures { λ r.
-        ⌜ leftOf (now (memory .exit)) (now (answers .exit)) r
+        ⌜ plainLeft (now (memory .exit)) (now (answers .exit)) r
         ≡ runs.plainRun (now (memory .entry)) (now (calls .entry)) (now (answers .entry)) ⌝ }
 {
-    if memory.len() % 32 != 0 {
-        return Ran {
-            state: zero_state(),
-            made: 0,
-            refusal: 1,
-        };
+    if refusals::length_fits(memory.len()) {
+        let n = trace::calls_held(calls, answers);
+        let table = rights::table();
+        return run_calls(&table, memory, calls, answers, n);
     }
-    if 16777216 < memory.len() {
-        return Ran {
-            state: zero_state(),
-            made: 0,
-            refusal: 1,
-        };
+    Ran {
+        state: zero_state(),
+        made: 0,
+        refusal: 1,
     }
-    let n = trace::calls_held(calls, answers);
-    let table = rights::table();
-    run_calls(&table, memory, calls, answers, n)
 }

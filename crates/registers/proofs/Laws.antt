@@ -2,7 +2,7 @@
 use Prim.Native.Nat.{ℕ}
 use mathlib.Core.Bool.{true, false, not}
 use mathlib.Core.Path.{_≡_}
-use Rattle.values.specs.Tests.{bit}
+use Rattle.values.specs.Bits.{bit}
 use Rattle.values.specs.Control.{listed}
 use Rattle.values.proofs.Cases.{case}
 

@@ -1,2 +1,2 @@
-pub mod Refusals
+pub mod Pairs
 pub mod Registers

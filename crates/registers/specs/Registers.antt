@@ -3,6 +3,7 @@ use Prim.Native.Nat.{ℕ, _*_, _/_, _%_}
 use mathlib.Core.Bool.{cond}
 use lib.Dec.{eqb}
 use Rattle.values.specs.Control.{kept, controlRead}
+use Rattle.values.specs.Registers.{withControl, withBase, withDomains, withFsr, withFar}
 use Rattle.values.specs.declared.Registers.{Registers}
 
 -- "0 reads 0x4401A100." "1 ... 4 to 6 read as one". "4 reads 0". The rest read as they are kept.
@@ -20,9 +21,9 @@ readOf r n =
 -- writes." "5 (FSR) keeps 8 bits". "6 (FAR) keeps 32." Writes to 7 and 8 leave the five as they are.
 unfoldable pub writtenOf : Registers → ℕ → ℕ → Registers
 writtenOf r n v =
-    cond (eqb n 1) (record { control = kept v; base = r .base; domains = r .domains; fsr = r .fsr; far = r .far })
-    (cond (eqb n 2) (record { control = r .control; base = v / 16384 * 16384; domains = r .domains; fsr = r .fsr; far = r .far })
-    (cond (eqb n 3) (record { control = r .control; base = r .base; domains = v; fsr = r .fsr; far = r .far })
-    (cond (eqb n 5) (record { control = r .control; base = r .base; domains = r .domains; fsr = v % 256; far = r .far })
-    (cond (eqb n 6) (record { control = r .control; base = r .base; domains = r .domains; fsr = r .fsr; far = v })
+    cond (eqb n 1) (withControl r (kept v))
+    (cond (eqb n 2) (withBase r (v / 16384 * 16384))
+    (cond (eqb n 3) (withDomains r v)
+    (cond (eqb n 5) (withFsr r (v % 256))
+    (cond (eqb n 6) (withFar r v)
     r))))

@@ -1,10 +1,9 @@
-// The registers of coprocessor 15, and the refusals that a call alone decides.
+// The registers of coprocessor 15, and the operation pairs of registers 7 and 8.
 ghost use mathlib.Core.Path.{_≡_};
 ghost use Prim.Native.Nat.{_<_};
 ghost use Rattle.values.specs.Control as control;
-ghost use Rattle.registers.specs.Refusals as refused;
+ghost use Rattle.registers.specs.Pairs as pairs;
 ghost use Rattle.registers.specs.Registers as spec;
-use values::Call;
 use values::Registers;
 use values::Transfer;
 
@@ -37,7 +36,7 @@ pub fn read(r: Registers, n: u32) -> u32
     ensures { λ v. ⌜ v ≡ spec.readOf r n ⌝ }
 {
     if n == 0 {
-        return 1140957440;
+        return 0x4401A100;
     }
     if n == 1 {
         return r.control + 112;
@@ -87,7 +86,7 @@ pub fn written(r: Registers, n: u32, v: u32) -> Registers
 
 // Whether opcode 2 and CRm are a pair.
 pub fn is_pair(t: Transfer, opcode: u32, crm: u32) -> bool
-    ensures { λ r. ⌜ r ≡ refused.isPair t opcode crm ⌝ }
+    ensures { λ r. ⌜ r ≡ pairs.isPair t opcode crm ⌝ }
 {
     if t.opcode == opcode {
         return t.crm == crm;
@@ -96,8 +95,8 @@ pub fn is_pair(t: Transfer, opcode: u32, crm: u32) -> bool
 }
 
 // Whether the pair of a write of register 7 or 8 is listed.
-fn is_listed_pair(t: Transfer) -> bool
-    ensures { λ r. ⌜ r ≡ refused.listedPair t ⌝ }
+pub fn is_listed_pair(t: Transfer) -> bool
+    ensures { λ r. ⌜ r ≡ pairs.listedPair t ⌝ }
 {
     if is_pair(t, 0, 7) {
         return true;
@@ -116,7 +115,7 @@ fn is_listed_pair(t: Transfer) -> bool
 
 // Whether the pair is one of register 7 alone.
 fn is_seven_pair(t: Transfer) -> bool
-    ensures { λ r. ⌜ r ≡ refused.sevenPair t ⌝ }
+    ensures { λ r. ⌜ r ≡ pairs.sevenPair t ⌝ }
 {
     if t.register == 7 {
         if is_pair(t, 1, 10) {
@@ -125,66 +124,4 @@ fn is_seven_pair(t: Transfer) -> bool
         return is_pair(t, 4, 10);
     }
     false
-}
-
-// Refusals 8 and 9 of a read, or 0.
-fn read_refusal(t: Transfer) -> u32
-    ensures { λ r. ⌜ r ≡ refused.readRefusal t ⌝ }
-{
-    if t.privileged {
-        if t.register <= 6 { 0 } else { 9 }
-    } else {
-        8
-    }
-}
-
-// Refusals 10 to 12 of a write of a register that can be written, or 0.
-fn value_refusal(t: Transfer, v: u32) -> u32
-    ensures { λ r. ⌜ r ≡ refused.valueRefusal t v ⌝ }
-{
-    if 7 <= t.register {
-        if is_listed_pair(t) {
-            return 0;
-        }
-        return 10;
-    }
-    if t.register == 1 {
-        if v / 128 % 2 == 1 {
-            return 11;
-        }
-        if is_listed(v) {
-            return 0;
-        }
-        return 12;
-    }
-    0
-}
-
-// Refusals 8 to 12 of a write, or 0.
-fn write_refusal(t: Transfer, v: u32) -> u32
-    ensures { λ r. ⌜ r ≡ refused.writeRefusal t v ⌝ }
-{
-    if t.privileged {
-        if 1 <= t.register {
-            if t.register <= 8 {
-                return value_refusal(t, v);
-            }
-            return 9;
-        }
-        return 9;
-    }
-    8
-}
-
-// Refusals 6 to 12, or 0.
-pub fn call_refusal(c: Call) -> u32
-    ensures { λ r. ⌜ r ≡ refused.callRefusal c ⌝ }
-{
-    match c {
-        Call::Load(a) => translation::load_refusal(a),
-        Call::SignedLoad(a) => translation::load_refusal(a),
-        Call::Store(a, v) => translation::store_refusal(a, v),
-        Call::Read(t) => read_refusal(t),
-        Call::Write(t, v) => write_refusal(t, v),
-    }
 }

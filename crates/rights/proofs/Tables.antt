@@ -7,7 +7,7 @@ use mathlib.Core.Path.{_≡_, sym, _∙_, ap}
 use lib.Dec.{eqb}
 use borrow.Author.Tests.{eqb-true, eqb-false}
 use lib.ListN.{getD}
-use Rattle.values.specs.Tests.{bit, number}
+use Rattle.values.specs.Bits.{bit, number}
 use Rattle.values.proofs.Cases.{case, number-bit, number-low}
 use Rattle.rights.specs.Rights.{tabulated, rights, rightsAt, rightsTable, indexOf}
 

@@ -3,7 +3,7 @@ use Prim.Native.Nat.{ℕ, zero, suc, _+_, _*_, _/_, _%_, _^_}
 use mathlib.Core.Bool.{Bool, true, cond, not, _&&_, _||_}
 use mathlib.Core.List.{List, [], _∷_}
 use lib.Dec.{eqb}
-use Rattle.values.specs.Tests.{bit, number}
+use Rattle.values.specs.Bits.{bit, number}
 
 -- 001, table 2-3, for AP 00: with S alone privileged modes read, with R alone all modes read; "AP 00 with S and R both set allows
 -- nothing". AP 01: privileged modes read and write. AP 10: besides, user mode reads. AP 11: all read and write.

@@ -1,7 +1,7 @@
 // The rights of an access, out of a constant table, and the domain values of register 3.
 ghost use mathlib.Core.Path.{_≡_};
 ghost use Prim.Native.Nat.{_<_, _*_};
-ghost use Rattle.values.specs.Tests.{bit};
+ghost use Rattle.values.specs.Bits.{bit};
 ghost use Rattle.rights.specs.Rights.{rights, rightsAt, rightsTable, domainValue};
 
 // Index: domain value × 64 + AP × 16 + S × 8 + R × 4 + privileged × 2 + store. 0 allowed, 1 domain fault, 2 permission fault.

@@ -2,3 +2,4 @@ pub mod Packs
 pub mod Shapes
 pub mod Starts
 pub mod Looks
+pub mod Held

@@ -18,16 +18,16 @@ use Rattle.walk.specs.declared.Mapping.the-variants.{Found, Failed}
 use Rattle.tlb.specs.Tlb.{translated}
 use Rattle.cache.specs.Dcache.{find}
 use Rattle.cache.proofs.Finds.{found}
-use Rattle.sound.specs.Machine.{Machine, memoryOf, storeOf}
-use Rattle.sound.specs.Meaning.{linesOf}
-use Rattle.soundness.proofs.Reader.{sound-means}
-use Rattle.step.specs.Refusals.{stateRefusal}
+use Rattle.soundness_test.specs.Meaning.{linesOf}
+use Rattle.soundness_laws.proofs.Reader.{sound-means}
+use Rattle.step.specs.Meets.{stateRefusal}
 use Rattle.sa110.specs.declared.Part.{Part}
 use Rattle.sa110.specs.declared.Part.the-variants.{Empty}
 use Rattle.sa110.specs.Look.{memoryLine, walkedLine, foundLine, shown, partBytes, look, Inside}
 use Rattle.step.proofs.StateRefusals.{Accepts, accepts}
+use Rattle.machine.specs.Machine.{Machine, memoryOf, storeOf, physicalOf}
 
-module _ (m : Machine) (va : VirtualAddress) (n : ℕ) (e : n ≡ stateRefusal m 0) where
+module _ (m : Machine) (va : VirtualAddress) (n : ℕ) (e : n ≡ stateRefusal m) where
   pub shown-refused : (n ≡ 0 → ⊥) → Empty ≡ shown m va
   unfolding shown
   shown-refused z = rw (← e, ne-eqb n 0 z)
@@ -57,15 +57,15 @@ module _ (long kept : ℕ) where
     found-inside a h k (At i) f = let l = found (m .side .cache .lines) va i f .low in omega arith
     found-inside a h k Nothing f =
         case (mmu (m .cp15 .registers))
-        (λ t. rw t (walked-inside (length (memoryOf m)) (a .whole) h va (walk (memoryOf m) (m .cp15 .registers .base) va)))
+        (λ t. rw t (walked-inside (length (memoryOf m)) (a .whole) h va (walk (physicalOf m) (m .cp15 .registers .base) va)))
         (λ t. rw t (memory-inside (length (memoryOf m)) (a .whole) h (flat va)))
 
     -- what a look shows lies inside
     shown-within : (Accepts m → (length (memoryOf m) ≤ long) × (16384 ≤ kept)) → Inside long kept (shown m va)
     unfolding shown
     shown-within h =
-        case (eqb (stateRefusal m 0) 0)
-        (λ t. let a = accepts m (eqb-true (stateRefusal m 0) 0 t) in rw t (found-inside a (h a .0) (h a .1) (find (m .side .cache .lines) va) refl))
+        case (eqb (stateRefusal m) 0)
+        (λ t. let a = accepts m (eqb-true (stateRefusal m) 0 t) in rw t (found-inside a (h a .0) (h a .1) (find (m .side .cache .lines) va) refl))
         (λ f. rw f tt)
 
 module _ (m : Machine) (va : VirtualAddress) where
@@ -81,8 +81,8 @@ module _ (m : Machine) (va : VirtualAddress) where
   look-of x e = rw e
 
   -- inside the longest
-  shown-low : Inside 16777216 16384 (shown m va)
-  shown-low = shown-within 16777216 16384 m va (λ a. (a .short, omega arith))
+  shown-low : Inside 0x1000000 16384 (shown m va)
+  shown-low = shown-within 0x1000000 16384 m va (λ a. (a .short, omega arith))
 
-  pub part-low : (x : Part) → x ≡ shown m va → Inside 16777216 16384 x
+  pub part-low : (x : Part) → x ≡ shown m va → Inside 0x1000000 16384 x
   part-low x e = rw e shown-low

@@ -18,23 +18,24 @@ use Rattle.tlb.specs.Packing.{entryOf}
 use Rattle.buffer.specs.Packing.{slotsOf}
 use Rattle.buffer.proofs.Slots.{slot-at, length-slots}
 use Rattle.cache.specs.Packing.{lineOf}
-use Rattle.sound.specs.Machine.{Machine}
-use Rattle.sound.specs.Formed.{Formed}
-use Rattle.soundness.proofs.Parts.{same-at}
+use Rattle.soundness_test.specs.Formed.{Formed}
+use Rattle.soundness_laws.proofs.Elements.{same-at}
 use Rattle.values.specs.declared.Cp15.{Cp15}
 use Rattle.values.specs.declared.Call.{Call}
-use Rattle.access.specs.declared.Outcome.{Outcome}
-use Rattle.step.specs.Refusals.{stateRefusal}
+use Rattle.step.specs.Meets.{stateRefusal}
 use Rattle.step.specs.Call.{served}
 use Rattle.step.specs.Code.{Serves}
-use Rattle.trace.specs.Fold.{callsIn, Left}
-use Rattle.step.specs.Batch.{leftBy}
+use Rattle.trace.specs.Fold.{callsIn, leaves}
+use Rattle.step.specs.Run.{leftBy}
 use Rattle.sa110.specs.State.{bytesOf, machineIn, calledOf, ranOf}
 use Rattle.sa110.specs.declared.State.{State}
 use Rattle.sa110.specs.declared.SlotBytes.{SlotBytes}
 use Rattle.step.proofs.StateRefusals.{Accepts, accepts}
-use Rattle.access.specs.declared.Small.{Small}
-use Rattle.access.specs.Code.{Lists, machineOf, steppedOf}
+use Rattle.machine.specs.declared.Outcome.{Outcome}
+use Rattle.machine.specs.declared.Scalars.{Scalars}
+use Rattle.machine.specs.Lists.{Lists, machineOf, steppedOf}
+use Rattle.machine.specs.Scalars.{scalarsFrom}
+use Rattle.machine.specs.Lists.{lists}
 
 -- what an array of bytes tells of its list
 pub record Row (xs : List ℕ) : Type 0 where
@@ -54,9 +55,9 @@ rows-of (x ∷ xs) [] p i = absurd p
 rows-of (x ∷ xs) (u ∷ us) p zero = row-of x (u ∷ []) (p .0)
 rows-of (x ∷ xs) (u ∷ us) p (suc i) = rows-of xs us (p .1) i
 
-module _ (l : Lists) (es : List ℕ) (s : Small) (n : ℕ) (e : length es ≡ 32) (ls : length (l .lines) ≡ 512) (ps : length (l .pointers) ≡ 16)
+module _ (l : Lists) (es : List ℕ) (s : Scalars) (n : ℕ) (e : length es ≡ 32) (ls : length (l .lines) ≡ 512) (ps : length (l .pointers) ≡ 16)
     (st : length (l .store) ≡ 16384) (sb : Bytes (l .store)) (ws : length (l .words) ≡ 8) (bs : length (l .bytes) ≡ 8)
-    (rows : (i : ℕ) → Row (getD (l .bytes) i (replicate 16 0))) (whole : length (l .memory) % 32 ≡ 0) (short : length (l .memory) ≤ 16777216)
+    (rows : (i : ℕ) → Row (getD (l .bytes) i (replicate 16 0))) (whole : length (l .memory) % 32 ≡ 0) (short : length (l .memory) ≤ 0x1000000)
     (mb : Bytes (l .memory)) where
   row-at : (i : ℕ) → Row (getD (slotsOf (l .words) (l .bytes)) i emptySlot .bytes)
   row-at i = subst (λ (y : Slot). Row (y .bytes)) (sym (slot-at (l .words) (l .bytes) i (ws ∙ sym bs))) (rows i)
@@ -82,51 +83,51 @@ module _ (l : Lists) (es : List ℕ) (s : Small) (n : ℕ) (e : length es ≡ 32
 -- the lists of a state, with the places' bytes by themselves
 abbrev pub listsIn : List ℕ → List ℕ → State → List (List ℕ) → Lists
 listsIn memory store s bs =
-    record { memory = memory; words = s .words; bytes = bs; lines = s .lines; pointers = s .pointers; store = store }
+    (lists memory (s .words) bs (s .lines) (s .pointers) store)
 
-abbrev pub smallIn : State → Cp15 → Small
-smallIn s r = record { cp15 = r; counts = s .counts; used = s .used }
+abbrev pub scalarsIn : State → Cp15 → Scalars
+scalarsIn s r = (scalarsFrom r (s .counts) (s .used))
 
 module _ (memory store : List ℕ) (s : State) (r : Cp15) (bs : List (List ℕ)) (b : bs ≡ bytesOf (s .slots))
-    (h : stateRefusal (machineIn memory store s r) 0 ≡ 0) where
+    (h : stateRefusal (machineIn memory store s r) ≡ 0) where
   acc : Accepts (machineIn memory store s r)
   acc = accepts (machineIn memory store s r) h
 
   pub serves-of : length (s .entries) ≡ 32 → length (s .lines) ≡ 512 → length (s .pointers) ≡ 16 → length (s .words) ≡ 8 → length bs ≡ 8
       → ((i : ℕ) → Row (getD bs i (replicate 16 0))) → Bytes memory → Bytes store
-      → Serves (machineOf (listsIn memory store s bs) (s .entries) (smallIn s r) (length memory))
+      → Serves (machineOf (listsIn memory store s bs) (s .entries) (scalarsIn s r) (length memory))
   serves-of e ls ps ws k rows mb sb =
       let a = acc in
-      let f = formed-of (listsIn memory store s bs) (s .entries) (smallIn s r) (s .size) e ls ps (a .store) sb ws k rows (a .whole) (a .short) mb in
-      subst (λ (n : ℕ). Serves (machineOf (listsIn memory store s bs) (s .entries) (smallIn s r) n)) (a .size)
-      (subst (λ (x : List (List ℕ)). Formed (machineOf (listsIn memory store s x) (s .entries) (smallIn s r) (s .size)) → Serves (machineOf (listsIn memory store s x) (s .entries) (smallIn s r) (s .size))) (sym b)
+      let f = formed-of (listsIn memory store s bs) (s .entries) (scalarsIn s r) (s .size) e ls ps (a .store) sb ws k rows (a .whole) (a .short) mb in
+      subst (λ (n : ℕ). Serves (machineOf (listsIn memory store s bs) (s .entries) (scalarsIn s r) n)) (a .size)
+      (subst (λ (x : List (List ℕ)). Formed (machineOf (listsIn memory store s x) (s .entries) (scalarsIn s r) (s .size)) → Serves (machineOf (listsIn memory store s x) (s .entries) (scalarsIn s r) (s .size))) (sym b)
       (λ g. record { formed = g; is-sound = a .is-sound; size = a .size }) f)
 
   pub called-by : (k : Lists) (fs : List ℕ) (o : Outcome) (c : Call) (held : List SlotBytes)
-      → steppedOf k fs (length memory) o ≡ served (machineOf (listsIn memory store s bs) (s .entries) (smallIn s r) (length memory)) c
+      → steppedOf k fs (length memory) o ≡ served (machineOf (listsIn memory store s bs) (s .entries) (scalarsIn s r) (length memory)) c
       → bytesOf held ≡ k .bytes
       → calledOf (k .memory) (k .store) (record {
         state = record {
           size = s .size;
-          counts = o .small .counts;
-          used = o .small .used;
+          counts = o .scalars .counts;
+          used = o .scalars .used;
           entries = fs;
           lines = k .lines;
           pointers = k .pointers;
           words = k .words;
           slots = held;
         };
-        cp15 = o .small .cp15;
+        cp15 = o .scalars .cp15;
         answer = o .answer;
       })
       ≡ served (machineIn memory store s r) c
   called-by k fs o c held e g =
       let a = acc in
-      rw (g, a .size) (subst (λ (x : List (List ℕ)). steppedOf k fs (length memory) o ≡ served (machineOf (listsIn memory store s x) (s .entries) (smallIn s r) (length memory)) c) b e)
+      rw (g, a .size) (subst (λ (x : List (List ℕ)). steppedOf k fs (length memory) o ≡ served (machineOf (listsIn memory store s x) (s .entries) (scalarsIn s r) (length memory)) c) b e)
 
-  pub ran-by : (k : Lists) (fs answers : List ℕ) (t : Small) (made : ℕ) (held : List SlotBytes) (n : ℕ) (calls old : List ℕ)
-      → _≡_ {A = Left Machine} (record { machine = machineOf k fs t (length memory); answers = answers; made = made })
-      (leftBy (machineOf (listsIn memory store s bs) (s .entries) (smallIn s r) (length memory)) (callsIn n calls 0) old)
+  pub ran-by : (k : Lists) (fs answers : List ℕ) (t : Scalars) (made : ℕ) (held : List SlotBytes) (n : ℕ) (calls old : List ℕ)
+      → leaves (machineOf k fs t (length memory)) answers made
+      ≡ leftBy (machineOf (listsIn memory store s bs) (s .entries) (scalarsIn s r) (length memory)) (callsIn n calls 0) old
       → bytesOf held ≡ k .bytes
       → ranOf (k .memory) (k .store) answers (record {
         state = record {
@@ -145,4 +146,4 @@ module _ (memory store : List ℕ) (s : State) (r : Cp15) (bs : List (List ℕ))
       ≡ leftBy (machineIn memory store s r) (callsIn n calls 0) old
   ran-by k fs answers t made held n calls old e g =
       let a = acc in
-      rw (g, a .size) (subst (λ (x : List (List ℕ)). _≡_ {A = Left Machine} (record { machine = machineOf k fs t (length memory); answers = answers; made = made }) (leftBy (machineOf (listsIn memory store s x) (s .entries) (smallIn s r) (length memory)) (callsIn n calls 0) old)) b e)
+      rw (g, a .size) (subst (λ (x : List (List ℕ)). leaves (machineOf k fs t (length memory)) answers made ≡ leftBy (machineOf (listsIn memory store s x) (s .entries) (scalarsIn s r) (length memory)) (callsIn n calls 0) old) b e)

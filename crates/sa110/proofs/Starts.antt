@@ -1,10 +1,10 @@
 -- The cases of a start, and the machine of a state of zeros.
-use Prim.Native.Nat.{ℕ, _%_, _<_, _≤_}
+use Prim.Native.Nat.{ℕ}
 use mathlib.Core.Path.{_≡_, _∙_, ap}
-use mathlib.Core.List.{List}
+use mathlib.Core.List.{List, [], _∷_}
 use lib.ListN.{length, replicate}
-use borrow.Author.Tests.{eq-eqb, ne-eqb, le-leb, lt-leb}
-use Rattle.values.specs.Empty.{noEntries, noLines, zeroCp15, zeroCounts}
+use borrow.Author.Tests.{eq-eqb, ne-eqb}
+use Rattle.values.specs.Empty.{noEntries, noLines}
 use Rattle.values.specs.declared.Entry.{Entry}
 use Rattle.values.specs.declared.Line.{Line}
 use Rattle.values.proofs.Maps.{map-replicate}
@@ -13,23 +13,13 @@ use Rattle.tlb.proofs.Packing.{entry-zero}
 use Rattle.buffer.specs.Packing.{slotsOf}
 use Rattle.cache.specs.Packing.{lineOf, linesOf}
 use Rattle.cache.proofs.Lines.{line-zero}
-use Rattle.sound.specs.Machine.{Machine, fresh}
-use Rattle.step.specs.Start.{startRefusal, started}
+use Rattle.refusals.specs.Refusals.{refusalIn, row1, row2}
+use Rattle.step.specs.Meets.{startRefusal}
+use Rattle.step.specs.Start.{startedFrom, started}
+use Rattle.sa110.specs.Held.{zeroState}
 use Rattle.sa110.specs.State.{machineIn}
-use Rattle.sa110.specs.declared.State.{State}
-
-abbrev pub zeroState : ℕ → State
-zeroState size =
-    record {
-      size = size;
-      counts = zeroCounts;
-      used = 0;
-      entries = replicate 32 0;
-      lines = replicate 512 0;
-      pointers = replicate 16 0;
-      words = replicate 8 0;
-      slots = replicate 8 (record { bytes = replicate 16 0 });
-    }
+use Rattle.values.specs.Registers.{zeroCp15}
+use Rattle.machine.specs.Machine.{Machine, fresh}
 
 pub fresh-is : (size : ℕ) (memory store : List ℕ) → machineIn memory store (zeroState size) zeroCp15 ≡ fresh size memory store
 unfolding fresh slotsOf
@@ -39,29 +29,16 @@ fresh-is size memory store =
     rw (e, l)
 
 module _ (memory store : List ℕ) where
-  pub start-odd : (length memory % 32 ≡ 0 → ⊥) → 1 ≡ startRefusal memory store
+  -- 1 and 2, by the lengths
+  pub start-by : (n : ℕ) → n ≡ refusalIn (row1 (length memory) ∷ row2 (length store) ∷ []) → n ≡ startRefusal memory store
   unfolding startRefusal
-  start-odd h = rw (ne-eqb (length memory % 32) 0 h)
-
-  module _ (e : length memory % 32 ≡ 0) where
-    pub start-long : 16777216 < length memory → 1 ≡ startRefusal memory store
-    unfolding startRefusal
-    start-long h = rw (eq-eqb (length memory % 32) 0 e, lt-leb (length memory) 16777216 h)
-
-    module _ (f : length memory ≤ 16777216) where
-      pub start-store : (length store ≡ 16384 → ⊥) → 2 ≡ startRefusal memory store
-      unfolding startRefusal
-      start-store h = rw (eq-eqb (length memory % 32) 0 e, le-leb (length memory) 16777216 f, ne-eqb (length store) 16384 h)
-
-      pub start-fits : length store ≡ 16384 → 0 ≡ startRefusal memory store
-      unfolding startRefusal
-      start-fits h = rw (eq-eqb (length memory % 32) 0 e, le-leb (length memory) 16777216 f, eq-eqb (length store) 16384 h)
+  start-by n e = e
 
   module _ (m : Machine) (n : ℕ) (e : n ≡ startRefusal memory store) where
-    pub start-served : n ≡ 0 → m ≡ fresh (length memory) memory store → record { machine = m; refusal = n } ≡ started memory store
+    pub start-served : n ≡ 0 → m ≡ fresh (length memory) memory store → startedFrom m n ≡ started memory store
     unfolding started
     start-served z h = rw (h, ← e, eq-eqb n 0 z)
 
-    pub start-refused : (n ≡ 0 → ⊥) → m ≡ fresh 0 memory store → record { machine = m; refusal = n } ≡ started memory store
+    pub start-refused : (n ≡ 0 → ⊥) → m ≡ fresh 0 memory store → startedFrom m n ≡ started memory store
     unfolding started
     start-refused z h = rw (h, ← e, ne-eqb n 0 z)

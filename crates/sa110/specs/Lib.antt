@@ -1,2 +1,3 @@
 pub mod Look
 pub mod State
+pub mod Held

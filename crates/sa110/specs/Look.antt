@@ -2,7 +2,7 @@
 use Prim.Native.Nat.{ℕ, _+_, _*_, _≤_}
 use mathlib.Core.Bool.{cond}
 use mathlib.Core.List.{List, []}
-use lib.Dec.{eqb}
+use lib.Dec.{eqb, ltb}
 use lib.ListN.{length, take, drop}
 use Rattle.values.specs.Addresses.{flat, physicalLine}
 use Rattle.values.specs.Control.{mmu}
@@ -15,15 +15,14 @@ use Rattle.walk.specs.declared.Mapping.{Mapping}
 use Rattle.walk.specs.declared.Mapping.the-variants.{Found, Failed}
 use Rattle.tlb.specs.Tlb.{translated}
 use Rattle.cache.specs.Dcache.{find}
-use Rattle.sound.specs.Machine.{Machine, memoryOf, storeOf}
-use Rattle.translation.specs.Faults.{inside}
-use Rattle.step.specs.Refusals.{stateRefusal}
+use Rattle.step.specs.Meets.{stateRefusal}
 use Rattle.sa110.specs.declared.Part.{Part}
 use Rattle.sa110.specs.declared.Part.the-variants.{OfStore, OfMemory, Empty}
+use Rattle.machine.specs.Machine.{Machine, memoryOf, storeOf, physicalOf}
 
--- a line of memory of n bytes; under a bounds fault "an empty part"
+-- a line of memory of n bytes, which is a multiple of 32; under a bounds fault "an empty part"
 abbrev pub memoryLine : ℕ → PhysicalAddress → Part
-memoryLine n pa = cond (inside n pa) (OfMemory (physicalLine pa)) Empty
+memoryLine n pa = cond (ltb (pa .0) n) (OfMemory (physicalLine pa)) Empty
 
 -- "otherwise out of memory by a walk past the TLB that changes nothing"; under a walk fault "an empty part"; "rights are not checked"
 abbrev pub walkedLine : ℕ → VirtualAddress → Mapping → Part
@@ -34,12 +33,12 @@ walkedLine n va (Failed s d) = Empty
 abbrev pub foundLine : Machine → VirtualAddress → Search → Part
 foundLine m va (At i) = OfStore i
 foundLine m va Nothing =
-    cond (mmu (m .cp15 .registers)) (walkedLine (length (memoryOf m)) va (walk (memoryOf m) (m .cp15 .registers .base) va))
+    cond (mmu (m .cp15 .registers)) (walkedLine (length (memoryOf m)) va (walk (physicalOf m) (m .cp15 .registers .base) va))
     (memoryLine (length (memoryOf m)) (flat va))
 
 -- the part shown; "Under 1 to 4 (no number is returned) ... it shows an empty part"
 unfoldable pub shown : Machine → VirtualAddress → Part
-shown m va = cond (eqb (stateRefusal m 0) 0) (foundLine m va (find (m .side .cache .lines) va)) Empty
+shown m va = cond (eqb (stateRefusal m) 0) (foundLine m va (find (m .side .cache .lines) va)) Empty
 
 -- the 32 bytes of a line of a list of bytes
 abbrev pub lineBytes : List ℕ → ℕ → List ℕ

@@ -6,19 +6,18 @@ ghost use Prim.Native.Nat.{ℕ, _≤_, _+_, _*_, _%_};
 ghost use lib.ListN.{length};
 ghost use Rattle.values.specs.Addresses.{flat};
 ghost use Rattle.values.specs.Control.{mmu};
-ghost use Rattle.values.specs.Empty.{zeroCp15};
+ghost use Rattle.bus.specs.Physical.{physical};
 ghost use Rattle.walk.specs.Walk.{walk};
 ghost use Rattle.walk.specs.Ranges.{Ranged};
-ghost use Rattle.sound.specs.Machine as machines;
-ghost use Rattle.sound.specs.Soundness.{sound};
-ghost use Rattle.step.specs.Refusals.{stateRefusal};
+ghost use Rattle.machine.specs.Machine as machines;
+ghost use Rattle.soundness_test.specs.Soundness.{sound};
+ghost use Rattle.step.specs.Meets.{stateRefusal};
 ghost use Rattle.step.specs.Call as spec;
-ghost use Rattle.step.specs.Batch as batch;
+ghost use Rattle.step.specs.Run as runs;
 ghost use Rattle.step.specs.Start as starts;
 ghost use Rattle.sa110.specs.Look as looks;
 ghost use Rattle.trace.specs.Fold.{callsIn, Holds};
 ghost use Rattle.sa110.specs.State.{bytesOf, machineIn, calledOf, ranOf, startedOf};
-use access::Small;
 use values::Answer;
 use values::Call;
 use values::Counts;
@@ -28,6 +27,7 @@ use values::Registers;
 use values::Search;
 use values::VirtualAddress;
 use walk::Mapping;
+ghost use Rattle.values.specs.Registers.{zeroCp15};
 
 // The sixteen bytes of a place of the write buffer.
 #[repr(C)]
@@ -86,7 +86,7 @@ fn packed(bytes: [[u8; 16]; 8]) -> [SlotBytes; 8]
 }
 
 // Whether a state and a record are sound, for a memory of n bytes.
-fn is_sound(state: State, cp15: Cp15, n: usize) -> bool
+pub fn is_sound(state: State, cp15: Cp15, n: usize) -> bool
     ensures { λ r. ⌜ ((memory store : List ℕ) → length memory ≡ n → r ≡ sound (machineIn memory store state cp15)) ⌝ }
 {
     let entries = state.entries;
@@ -96,7 +96,7 @@ fn is_sound(state: State, cp15: Cp15, n: usize) -> bool
     let slots = state.slots;
     let counts = state.counts;
     let bytes = unpacked(slots);
-    sound::sound(
+    soundness_test::sound(
         cp15,
         &entries,
         &lines,
@@ -111,16 +111,11 @@ fn is_sound(state: State, cp15: Cp15, n: usize) -> bool
 
 // Refusals 1 to 4 of a call, or 0.
 fn state_refusal(state: State, cp15: Cp15, memory: &[u8], store: &[u8]) -> u32
-    ensures { λ r. ⌜ r ≡ stateRefusal (machineIn (now (memory .entry)) (now (store .entry)) state cp15) 0 ⌝ }
+    ensures { λ r. ⌜ r ≡ stateRefusal (machineIn (now (memory .entry)) (now (store .entry)) state cp15) ⌝ }
 {
-    if memory.len() % 32 != 0 {
-        return 1;
-    }
-    if 16777216 < memory.len() {
-        return 1;
-    }
-    if store.len() != 16384 {
-        return 2;
+    let n = refusals::lent_refusal(memory.len(), store.len());
+    if n != 0 {
+        return n;
     }
     if is_sound(state, cp15, memory.len()) {
         if state.size == memory.len() {
@@ -133,8 +128,9 @@ fn state_refusal(state: State, cp15: Cp15, memory: &[u8], store: &[u8]) -> u32
 
 // A call on a machine that refusals 1 to 4 do not hold of.
 fn serve(state: State, cp15: Cp15, memory: &mut [u8], store: &mut [u8], c: Call) -> Called
-    requires { ⌜ stateRefusal (machineIn (now memory) (now store) state cp15) 0 ≡ 0 ⌝ }
-    ensures { λ r. ⌜ calledOf (now (memory .exit)) (now (store .exit)) r ≡ spec.served (machineIn (now (memory .entry)) (now (store .entry)) state cp15) c ⌝ }
+    requires { ⌜ stateRefusal (machineIn (now memory) (now store) state cp15) ≡ 0 ⌝ }
+    ensures { λ r. ⌜ calledOf (now (memory .exit)) (now (store .exit)) r
+        ≡ spec.served (machineIn (now (memory .entry)) (now (store .entry)) state cp15) c ⌝ }
 {
     let table = rights::table();
     let mut entries = state.entries;
@@ -144,11 +140,7 @@ fn serve(state: State, cp15: Cp15, memory: &mut [u8], store: &mut [u8], c: Call)
     let slots = state.slots;
     let counts = state.counts;
     let mut bytes = unpacked(slots);
-    let small = Small {
-        cp15,
-        counts,
-        used: state.used,
-    };
+    let scalars = machine::scalars_of(cp15, counts, state.used);
     let o = step::step(
         &table,
         memory,
@@ -158,10 +150,10 @@ fn serve(state: State, cp15: Cp15, memory: &mut [u8], store: &mut [u8], c: Call)
         &mut pointers,
         store,
         &mut entries,
-        small,
+        scalars,
         c,
     );
-    let t = o.small;
+    let t = o.scalars;
     let answer = o.answer;
     let record = t.cp15;
     let counted = t.counts;
@@ -185,7 +177,8 @@ fn serve(state: State, cp15: Cp15, memory: &mut [u8], store: &mut [u8], c: Call)
 
 // One call: refusals 1 to 12 in document 01's order, each changing nothing.
 pub fn call(state: State, cp15: Cp15, memory: &mut [u8], store: &mut [u8], c: Call) -> Called
-    ensures { λ r. ⌜ calledOf (now (memory .exit)) (now (store .exit)) r ≡ spec.served (machineIn (now (memory .entry)) (now (store .entry)) state cp15) c ⌝ }
+    ensures { λ r. ⌜ calledOf (now (memory .exit)) (now (store .exit)) r
+        ≡ spec.served (machineIn (now (memory .entry)) (now (store .entry)) state cp15) c ⌝ }
 {
     let n = state_refusal(state, cp15, memory, store);
     if n != 0 {
@@ -216,10 +209,10 @@ fn run_served(
     answers: &mut [u64],
     n: usize,
 ) -> Ran
-    requires { ⌜ (stateRefusal (machineIn (now memory) (now store) state cp15) 0 ≡ 0) × Holds (now calls) (now answers) n ⌝ }
+    requires { ⌜ (stateRefusal (machineIn (now memory) (now store) state cp15) ≡ 0) × Holds (now calls) (now answers) n ⌝ }
     ensures { λ r.
         ⌜ ranOf (now (memory .exit)) (now (store .exit)) (now (answers .exit)) r
-        ≡ batch.leftBy (machineIn (now (memory .entry)) (now (store .entry)) state cp15) (callsIn n (now (calls .entry)) 0) (now (answers .entry)) ⌝ }
+        ≡ runs.leftBy (machineIn (now (memory .entry)) (now (store .entry)) state cp15) (callsIn n (now (calls .entry)) 0) (now (answers .entry)) ⌝ }
 {
     let table = rights::table();
     let mut entries = state.entries;
@@ -229,11 +222,7 @@ fn run_served(
     let slots = state.slots;
     let counts = state.counts;
     let mut bytes = unpacked(slots);
-    let small = Small {
-        cp15,
-        counts,
-        used: state.used,
-    };
+    let scalars = machine::scalars_of(cp15, counts, state.used);
     let f = step::run_calls(
         &table,
         memory,
@@ -243,12 +232,12 @@ fn run_served(
         &mut pointers,
         store,
         &mut entries,
-        small,
+        scalars,
         calls,
         answers,
         n,
     );
-    let t = f.small;
+    let t = f.scalars;
     let record = t.cp15;
     let counted = t.counts;
     let held = packed(bytes);
@@ -281,7 +270,7 @@ pub fn run(
 ) -> Ran
     ensures { λ r.
         ⌜ ranOf (now (memory .exit)) (now (store .exit)) (now (answers .exit)) r
-        ≡ batch.run (machineIn (now (memory .entry)) (now (store .entry)) state cp15) (now (calls .entry)) (now (answers .entry)) ⌝ }
+        ≡ runs.run (machineIn (now (memory .entry)) (now (store .entry)) state cp15) (now (calls .entry)) (now (answers .entry)) ⌝ }
 {
     let n = trace::calls_held(calls, answers);
     let refusal = state_refusal(state, cp15, memory, store);
@@ -303,33 +292,11 @@ pub struct Started {
     pub refusal: u32,
 }
 
-// Refusals 1 and 2 of a start, or 0.
-fn start_refusal(memory: &[u8], store: &[u8]) -> u32
-    ensures { λ r. ⌜ r ≡ starts.startRefusal (now (memory .entry)) (now (store .entry)) ⌝ }
-{
-    if memory.len() % 32 != 0 {
-        return 1;
-    }
-    if 16777216 < memory.len() {
-        return 1;
-    }
-    if store.len() != 16384 {
-        return 2;
-    }
-    0
-}
-
 // A state of zeros but for the memory's length.
 fn fresh(size: usize) -> State
     ensures { λ r. ⌜ ((memory store : List ℕ) → machineIn memory store r zeroCp15 ≡ machines.fresh size memory store) ⌝ }
 {
-    let counts = Counts {
-        calls: 0,
-        misses: 0,
-        hits: 0,
-        fills: 0,
-        halves: 0,
-    };
+    let counts = values::zero_counts();
     let zero = SlotBytes { bytes: [0u8; 16] };
     let entries = [0u64; 32];
     let lines = [0u64; 512];
@@ -352,18 +319,8 @@ fn fresh(size: usize) -> State
 pub fn start(memory: &[u8], store: &[u8]) -> Started
     ensures { λ r. ⌜ startedOf (now (memory .entry)) (now (store .entry)) r ≡ starts.started (now (memory .entry)) (now (store .entry)) ⌝ }
 {
-    let registers = Registers {
-        control: 0,
-        base: 0,
-        domains: 0,
-        fsr: 0,
-        far: 0,
-    };
-    let cp15 = Cp15 {
-        registers,
-        pointer: 0,
-    };
-    let refusal = start_refusal(memory, store);
+    let cp15 = values::zero_cp15();
+    let refusal = refusals::lent_refusal(memory.len(), store.len());
     if refusal == 0 {
         return Started {
             state: fresh(memory.len()),
@@ -410,7 +367,7 @@ fn mapped_line(n: usize, va: VirtualAddress, m: Mapping) -> Part
 fn uncached_line(memory: &[u8], r: Registers, va: VirtualAddress) -> Part
     requires { ⌜ r .base % 16384 ≡ 0 ⌝ }
     ensures { λ x.
-        ⌜ x ≡ cond (mmu r) (looks.walkedLine (length (now (memory .entry))) va (walk (now (memory .entry)) (r .base) va))
+        ⌜ x ≡ cond (mmu r) (looks.walkedLine (length (now (memory .entry))) va (walk (physical (now (memory .entry))) (r .base) va))
         (looks.memoryLine (length (now (memory .entry))) (flat va)) ⌝ }
 {
     if values::mmu(r) {

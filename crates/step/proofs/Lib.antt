@@ -1,5 +1,4 @@
-pub mod Requests
-pub mod SoundKept
-pub mod Ready
 pub mod StateRefusals
+pub mod Ready
+pub mod SoundKept
 pub mod Runs

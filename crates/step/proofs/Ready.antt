@@ -1,13 +1,12 @@
 -- What the code asks of the lent lists holds of a machine that refusals 1 to 4 do not hold of, once the call is counted.
-use Prim.Native.Nat.{ℕ, _+_, _*_, _%_, _<_, _≤_}
+use Prim.Native.Nat.{ℕ, _+_, _*_, _<_, _≤_}
 use native.Mathlib.Omega.{arith}
 use mathlib.Core.Bool.{true}
 use mathlib.Core.Path.{_≡_, refl, sym, _∙_, ap, subst}
-use mathlib.Core.List.{List}
+use mathlib.Core.List.{List, _∷_}
 use lib.ListN.{length, length-map, getD}
-use borrow.Author.Tests.{eq-eqb, ne-eqb, le-leb}
-use native.Mathlib.Nat.{add-zero}
-use Rattle.values.specs.Tests.{sum}
+use borrow.Author.Tests.{eq-eqb, ne-eqb}
+use Rattle.values.specs.Lists.{sum, all}
 use Rattle.values.specs.Control.{kept}
 use Rattle.values.specs.Empty.{emptyEntry, emptyLine}
 use Rattle.values.specs.declared.Call.{Call}
@@ -24,30 +23,26 @@ use Rattle.buffer.specs.Ranges.{Fits}
 use Rattle.cache.specs.Dcache.{dirtyHalves}
 use Rattle.cache.specs.Packing.{lineOf, linesOf}
 use Rattle.cache.proofs.Lines.{line-at}
-use Rattle.registers.specs.Refusals.{countRefusal, callRefusal}
-use Rattle.sound.specs.Meaning.{IsSound}
-use Rattle.soundness.proofs.TlbKept.{in-range}
-use Rattle.soundness.proofs.Reader.{sound-means}
-use Rattle.access.specs.declared.Small.{Small}
-use Rattle.access.specs.Code.{Lists, machineOf, steppedOf, TlbReady, SideReady}
-use Rattle.step.specs.Refusals.{stateRefusal, refusal}
+use Rattle.refusals.proofs.Rows.{row-met, row-unmet, rows-unmet}
+use Rattle.soundness_test.specs.Meaning.{IsSound}
+use Rattle.soundness_laws.proofs.TlbKept.{in-range}
+use Rattle.soundness_laws.proofs.Reader.{sound-means}
+use Rattle.step.specs.Meets.{stateRows, stateRefusal, refusal}
+use Rattle.step.proofs.StateRefusals.{not-state-refused, lengths-fit}
 use Rattle.step.specs.Call.{done, served}
 use Rattle.step.specs.Code.{Serves}
+use Rattle.refusals.specs.Refusals.{refusalIn, row5, callRows, callRefusal}
+use Rattle.machine.specs.declared.Scalars.{Scalars}
+use Rattle.machine.specs.Lists.{Lists, machineOf, steppedOf}
+use Rattle.machine.specs.Ready.{TlbReady, SideReady, CleanReady}
+use Rattle.machine.specs.Scalars.{withCounts, outcomeFrom}
+use Rattle.machine.specs.Machine.{Machine}
+use Rattle.values.specs.Rows.{Row}
+use Rattle.values.specs.Counts.{countLimit, counted}
 
--- the small parts with another call
-abbrev pub countedSmall : Small → Small
-countedSmall s =
-    record {
-      cp15 = s .cp15;
-      counts = record {
-        calls = s .counts .calls + 1;
-        misses = s .counts .misses;
-        hits = s .counts .hits;
-        fills = s .counts .fills;
-        halves = s .counts .halves;
-      };
-      used = s .used;
-    }
+-- the scalars with another call
+abbrev pub countedBy : Scalars → Scalars
+countedBy s = withCounts s (counted (s .counts))
 
 -- an empty entry is in range
 empty-ranged : InRange emptyEntry
@@ -68,7 +63,7 @@ empty-ranged =
 some-halves : (ls : List Line) (i : ℕ) → dirtyHalves (getD ls i emptyLine) ≤ sum dirtyHalves ls
 some-halves ls i = let e = sum-out dirtyHalves ls i emptyLine emptyLine refl refl in omega arith
 
-module _ (l : Lists) (es : List ℕ) (s : Small) (n : ℕ) (k : Serves (machineOf l es s n)) where
+module _ (l : Lists) (es : List ℕ) (s : Scalars) (n : ℕ) (k : Serves (machineOf l es s n)) where
   is : IsSound (machineOf l es s n)
   is = sound-means (machineOf l es s n) (k .formed .lines-long) (k .is-sound)
 
@@ -89,8 +84,8 @@ module _ (l : Lists) (es : List ℕ) (s : Small) (n : ℕ) (k : Serves (machineO
       }))
       (λ v. subst InRange (sym (x .entry-empty i v)) empty-ranged))
 
-  module _ (low : s .counts .calls < 4294967295) where
-    pub tlb-ready : TlbReady es (countedSmall s)
+  module _ (low : s .counts .calls < countLimit) where
+    pub tlb-ready : TlbReady es (countedBy s)
     tlb-ready =
         let x = is in
         record {
@@ -117,14 +112,14 @@ module _ (l : Lists) (es : List ℕ) (s : Small) (n : ℕ) (k : Serves (machineO
         let h = is .line-inside i w in
         omega arith
 
-    halves-room : (i : ℕ) → s .counts .halves + dirtyHalves (lineOf (getD (l .lines) i 0)) < 4294967296
+    halves-room : (i : ℕ) → s .counts .halves + dirtyHalves (lineOf (getD (l .lines) i 0)) ≤ countLimit
     halves-room i =
         let h = is .halves in
         let g = some-halves (linesOf (l .lines)) i in
         let e = ap dirtyHalves (line-at (l .lines) i) in
         omega arith
 
-    pub side-ready : Fits (l .memory) (l .words) (l .bytes) (s .used) → SideReady l (countedSmall s)
+    pub side-ready : Fits (l .memory) (l .words) (l .bytes) (s .used) → SideReady l (countedBy s)
     side-ready f =
         let x = is in
         record {
@@ -161,26 +156,49 @@ module _ (l : Lists) (es : List ℕ) (s : Small) (n : ℕ) (k : Serves (machineO
 
   -- ---- refusals 5 to 12
 
-  no-state-refusal : (next : ℕ) → stateRefusal (machineOf l es s n) next ≡ next
+  abbrev here : Machine
+  here = machineOf l es s n
+
+  no-state-refusal : refusalIn (stateRows here) ≡ 0
   unfolding stateRefusal
-  no-state-refusal next =
+  no-state-refusal =
       let f = k .formed in
-      rw (eq-eqb (length (l .memory) % 32) 0 (f .memory-lines), le-leb (length (l .memory)) 16777216 (f .memory-short), eq-eqb (length (l .store)) 16384 (f .store-long), k .is-sound, eq-eqb n (length (l .memory)) (k .size))
+      sym (not-state-refused here (lengths-fit (length (l .memory)) (f .memory-lines) (f .memory-short)) (f .store-long) (k .is-sound) (k .size))
 
   module _ (c : Call) where
-    pub refused-five : s .counts .calls ≡ 4294967295
-        → served (machineOf l es s n) c ≡ steppedOf l es n (record { small = s; answer = answer.Refused 5 })
-    unfolding served refusal
-    refused-five e = rw (no-state-refusal (countRefusal (s .counts .calls) (callRefusal c)), eq-eqb (s .counts .calls) 4294967295 e)
+    abbrev later : List (Row ℕ)
+    later = row5 (s .counts .calls) ∷ callRows c
 
-    module _ (e : s .counts .calls ≡ 4294967295 → ⊥) where
-      pub refused-by : (x : ℕ) → x ≡ callRefusal c → (x ≡ 0 → ⊥)
-          → served (machineOf l es s n) c ≡ steppedOf l es n (record { small = s; answer = answer.Refused x })
-      unfolding served refusal
-      refused-by x f z =
-          rw (no-state-refusal (countRefusal (s .counts .calls) (callRefusal c)), ne-eqb (s .counts .calls) 4294967295 e, ← f, ne-eqb x 0 z)
+    by-later : refusal here c ≡ refusalIn later
+    unfolding refusal all
+    by-later = rows-unmet (stateRows here) later refl no-state-refusal
 
-      pub not-refused : callRefusal c ≡ 0 → served (machineOf l es s n) c ≡ done (machineOf l es (countedSmall s) n) c
-      unfolding served refusal
-      not-refused f =
-          rw (no-state-refusal (countRefusal (s .counts .calls) (callRefusal c)), ne-eqb (s .counts .calls) 4294967295 e, f, add-zero (s .counts .misses), add-zero (s .counts .hits), add-zero (s .counts .fills), add-zero (s .counts .halves))
+    pub refused-five : s .counts .calls ≡ countLimit → served here c ≡ steppedOf l es n (outcomeFrom s (answer.Refused 5))
+    unfolding served
+    refused-five e =
+        let f : refusal here c ≡ 5 = by-later ∙ row-met (row5 (s .counts .calls)) (callRows c) (eq-eqb (s .counts .calls) countLimit e) in
+        rw f
+
+    module _ (e : s .counts .calls ≡ countLimit → ⊥) where
+      by-call : refusal here c ≡ callRefusal c
+      by-call = by-later ∙ row-unmet (row5 (s .counts .calls)) (callRows c) (ne-eqb (s .counts .calls) countLimit e)
+
+      pub refused-by : (x : ℕ) → x ≡ callRefusal c → (x ≡ 0 → ⊥) → served here c ≡ steppedOf l es n (outcomeFrom s (answer.Refused x))
+      unfolding served
+      refused-by x f z = let g : refusal here c ≡ x = by-call ∙ sym f in rw (g, ne-eqb x 0 z)
+
+      pub not-refused : callRefusal c ≡ 0 → served here c ≡ done (machineOf l es (countedBy s) n) c
+      unfolding served
+      not-refused f = let g : refusal here c ≡ 0 = by-call ∙ f in rw g
+
+-- what a clean asks of the data side is part of what an access asks
+pub clean-ready : (s : Scalars) (l : Lists) → SideReady l s → CleanReady (l .memory) (l .words) (l .bytes) (l .lines) (l .store) s
+clean-ready s l k =
+    record {
+      fits = k .fits;
+      lines-long = k .lines-long;
+      store-long = k .store-long;
+      short = k .short;
+      lines-inside = λ i h v. k .lines-inside i h (k .lines-held i h v);
+      halves = k .halves;
+    }

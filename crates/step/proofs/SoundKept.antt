@@ -1,52 +1,48 @@
 -- A served start makes a sound machine, and every call keeps it sound.
-use Prim.Native.Nat.{ℕ, _%_, _<_, _≤_}
+use Prim.Native.Nat.{ℕ}
 use native.Mathlib.Omega.{arith}
-use mathlib.Core.Bool.{Bool, true, false, cond, not}
+use mathlib.Core.Bool.{true, cond}
 use mathlib.Core.Path.{_≡_, refl}
-use mathlib.Core.List.{List}
-use lib.Dec.{eqb, leb}
+use mathlib.Core.List.{List, [], _∷_}
+use lib.Dec.{eqb}
 use lib.ListN.{length}
-use borrow.Author.Tests.{eqb-true, leb-true}
+use borrow.Author.Tests.{eqb-true, not-false}
+use Rattle.values.specs.Lists.{all}
 use Rattle.values.specs.declared.Call.{Call}
-use Rattle.values.specs.declared.Call.the-variants.{Load, SignedLoad, Store, Read, Write}
-use Rattle.values.proofs.Cases.{case, and-left, and-right}
+use Rattle.values.specs.Counts.{counted}
+use Rattle.values.specs.declared.Call.the-variants.{Read, Write}
+use Rattle.values.specs.declared.Call.the-variants as calls
+use Rattle.values.proofs.Cases.{case}
 use Rattle.words.specs.Words.{Bytes}
-use Rattle.registers.specs.Refusals.{lengthFits, countRefusal, callRefusal}
-use Rattle.translation.proofs.Laws.{store-accepted}
-use Rattle.sound.specs.Machine.{Machine, memoryOf, storeOf}
-use Rattle.sound.specs.Soundness.{sound}
-use Rattle.sound.specs.Meaning.{linesOf}
-use Rattle.sound.specs.Formed.{Formed}
-use Rattle.soundness.proofs.Parts.{CountsAre}
-use Rattle.soundness.proofs.FreshSound.{fresh-counts, fresh-holding}
-use Rattle.soundness.proofs.Reader.{sound-means, sound-of}
-use Rattle.soundness.proofs.Holding.{Holding, Kept, Roomy, holding-formed, holding-sound}
-use Rattle.access.specs.Access.{more}
-use Rattle.soundness.proofs.AccessKept.{load-kept, store-kept, counted-roomy}
-use Rattle.soundness.proofs.Cp15Kept.{not-refused, read-kept, write-kept}
-use Rattle.step.specs.Refusals.{storeFits, stateRefusal, refusal}
-use Rattle.step.specs.Start.{startRefusal, started}
+use Rattle.refusals.proofs.Rows.{row-passed, rows-passed, access-accepted}
+use Rattle.step.proofs.StateRefusals.{fitting}
+use Rattle.soundness_test.specs.Soundness.{sound}
+use Rattle.soundness_test.specs.Meaning.{linesOf}
+use Rattle.soundness_test.specs.Formed.{Formed}
+use Rattle.soundness_laws.proofs.ScalarParts.{CountsAre}
+use Rattle.soundness_laws.proofs.FreshSound.{fresh-counts, fresh-holding}
+use Rattle.soundness_laws.proofs.Reader.{sound-means, sound-of}
+use Rattle.soundness_laws.proofs.Holding.{Holding, Kept, Roomy, holding-formed, holding-sound}
+use Rattle.soundness_laws.proofs.AccessKept.{access-kept, counted-roomy}
+use Rattle.soundness_laws.proofs.Cp15Kept.{read-kept, write-kept}
+use Rattle.step.specs.Meets.{startRefusal, stateRows, refusal}
+use Rattle.step.specs.Start.{started}
 use Rattle.step.specs.Call.{done, served, Numbers}
+use Rattle.refusals.specs.Refusals.{lengthFits, storeFits, row1, row2, row5, callRows, callRefusal}
+use Rattle.machine.specs.Machine.{Machine, memoryOf, withCounts}
 
 -- ---- a served start
-
--- a condition that is met
-met : (b : Bool) (k next : ℕ) → 0 < k → cond (not b) k next ≡ 0 → b ≡ true
-met true k next l h = refl
-met false k next l h = absurd (omega arith)
 
 module _ (memory store : List ℕ) (mb : Bytes memory) (sb : Bytes store) (e : startRefusal memory store ≡ 0) where
   start-holding : Holding (length memory) (length memory) (started memory store .machine)
   unfolding startRefusal started
   start-holding =
       let n = length memory in
-      let r = lengthFits n in
-      let t : ℕ = cond (not (storeFits store)) 2 0 in
-      let fits : r ≡ true = met r 1 t (omega arith) e in
-      let long : length store ≡ 16384 = eqb-true (length store) 16384 (met (storeFits store) 2 0 (omega arith) (not-refused (not r) 1 t (omega arith) e)) in
-      let lines : n % 32 ≡ 0 = eqb-true (n % 32) 0 (and-left (eqb (n % 32) 0) (leb n 16777216) fits) in
-      let short : n ≤ 16777216 = leb-true n 16777216 (and-right (eqb (n % 32) 0) (leb n 16777216) fits) in
-      rw e (fresh-holding n memory store lines short mb long sb)
+      let h1 = row-passed (row1 n) (row2 (length store) ∷ []) (omega arith) e in
+      let h2 = row-passed (row2 (length store)) [] (omega arith) (h1 .1) in
+      let fits = fitting n (not-false (lengthFits n) (h1 .0)) in
+      let long : length store ≡ 16384 = eqb-true (length store) 16384 (not-false (storeFits (length store)) (h2 .0)) in
+      rw e (fresh-holding n memory store (fits .whole) (fits .short) mb long sb)
 
   start-counts : CountsAre (started memory store .machine .counts) (linesOf (started memory store .machine))
   unfolding started
@@ -61,24 +57,14 @@ module _ (memory store : List ℕ) (mb : Bytes memory) (sb : Bytes store) (e : s
 
 -- ---- a call that is not refused
 
-pub state-accepted : (m : Machine) (next : ℕ) → stateRefusal m next ≡ 0 → next ≡ 0
-unfolding stateRefusal
-state-accepted m next h =
-    let size = not (eqb (m .size) (length (memoryOf m))) in
-    let h1 = not-refused (not (lengthFits (length (memoryOf m)))) 1 (cond (not (storeFits (storeOf m))) 2 (cond (not (sound m)) 3 (cond size 4 next))) (omega arith) h in
-    let h2 = not-refused (not (storeFits (storeOf m))) 2 (cond (not (sound m)) 3 (cond size 4 next)) (omega arith) h1 in
-    let h3 = not-refused (not (sound m)) 3 (cond size 4 next) (omega arith) h2 in
-    not-refused size 4 next (omega arith) h3
-
 pub call-accepted : (m : Machine) (c : Call) → refusal m c ≡ 0 → callRefusal c ≡ 0
-unfolding refusal
+unfolding refusal all
 call-accepted m c h =
-    not-refused (eqb (m .counts .calls) 4294967295) 5 (callRefusal c) (omega arith) (state-accepted m (countRefusal (m .counts .calls) (callRefusal c)) h)
+    let k = rows-passed (stateRows m) (row5 (m .counts .calls) ∷ callRows c) refl h in
+    row-passed (row5 (m .counts .calls)) (callRows c) (omega arith) (k .1) .1
 
 pub done-kept : (m : Machine) (c : Call) → Roomy m → callRefusal c ≡ 0 → Numbers c → Kept m (done m c .machine)
-done-kept m (Load a) r h n = load-kept m false a r n
-done-kept m (SignedLoad a) r h n = load-kept m true a r n
-done-kept m (Store a v) r h n = store-kept m a v r (store-accepted a v h) (n .0)
+done-kept m (calls.Access a) r h n = access-kept m a r (access-accepted a h .0) (n .0)
 done-kept m (Read t) r h n = read-kept m t r
 done-kept m (Write t v) r h n = write-kept m t v r h n
 
@@ -92,7 +78,7 @@ module _ (m : Machine) (c : Call) (f : Formed m) (s : sound m ≡ true) (n : Num
       case (eqb (refusal m c) 0)
       (λ t.
       let r = counted-roomy m f i in
-      let k = done-kept (more m 1 0 0 0 0) c r (call-accepted m c (eqb-true (refusal m c) 0 t)) n in
+      let k = done-kept (withCounts m (counted (m .counts))) c r (call-accepted m c (eqb-true (refusal m c) 0 t)) n in
       rw t (record { formed = k .formed; sound = k .sound; memory = k .memory; size = k .size }))
       (λ t. rw t (record { formed = f; sound = i; memory = refl; size = refl }))
 

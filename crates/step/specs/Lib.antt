@@ -1,6 +1,5 @@
-pub mod Refusals
+pub mod Meets
 pub mod Start
 pub mod Call
 pub mod Run
-pub mod Batch
 pub mod Code

@@ -6,12 +6,12 @@ use Rattle.values.specs.declared.VirtualAddress.{VirtualAddress}
 use Rattle.values.specs.declared.Registers.{Registers}
 use Rattle.values.specs.declared.Fault.{Fault}
 use Rattle.values.specs.declared.Status.{Status}
-use Rattle.values.specs.declared.Answer.the-variants as answer
+use Rattle.values.specs.declared.Answer.{Answer}
 use Rattle.translation.specs.Faults.{faultSet}
-use Rattle.sound.specs.Machine.{Machine}
-use Rattle.access.specs.Access.{Stepped, faulted}
-use Rattle.plain.specs.Plain.{Plain, PlainStepped, plainFaulted}
-use Rattle.soundness.proofs.CacheKept.{SideIs}
+use Rattle.machine.specs.Machine.{Machine, Stepped, steppedFrom}
+use Rattle.reach.specs.Reach.{faulted}
+use Rattle.plain.specs.Plain.{Plain, PlainStepped, plainStepped, plainFaulted}
+use Rattle.soundness_laws.proofs.CacheKept.{SideIs}
 use Rattle.terms.specs.History.{History}
 use Rattle.terms.proofs.Invariant.{SideAgrees, TlbAgrees}
 
@@ -37,6 +37,12 @@ pub record Alike (n : ℕ) (x : Stepped) (y : PlainStepped) (h : History) : Type
 
 pub alike-by : (n : ℕ) (x x′ : Stepped) (y y′ : PlainStepped) (h : History) → x ≡ x′ → y ≡ y′ → Alike n x′ y′ h → Alike n x y h
 alike-by n x x′ y y′ h e f a = subst (λ (z : Stepped). Alike n z y h) (sym e) (subst (λ (z : PlainStepped). Alike n x′ z h) (sym f) a)
+
+-- the machines stay as they are
+pub still-alike : (n : ℕ) (m : Machine) (p : Plain) (h : History) → Shared n m p h → (x y : Answer) → x ≡ y
+    → Alike n (steppedFrom m x) (plainStepped p y) h
+still-alike n m p h k x y e =
+    record { same-answer = e; registers = k .registers; calls = k .calls; long = k .long; side = k .side; tlb = k .tlb }
 
 -- a fault sets FSR and FAR of both
 pub faulted-alike : (n : ℕ) (m : Machine) (p : Plain) (h : History) → Shared n m p h → (s : Status) (d : ℕ) (va : VirtualAddress)

@@ -13,18 +13,19 @@ use Rattle.values.specs.declared.PhysicalAddress.{PhysicalAddress}
 use Rattle.values.specs.declared.Line.{Line}
 use Rattle.values.proofs.Cases.{case, clash}
 use Rattle.words.specs.Words.{stored, Bytes}
-use Rattle.buffer.specs.Buffer.{Backing, drained, holds, ready, buffered}
+use Rattle.buffer.specs.Buffer.{Backing, withMemory, drained, holds, ready, buffered}
 use Rattle.buffer.proofs.Below.{below}
 use Rattle.buffer.proofs.Lengths.{memory-drained}
 use Rattle.buffer.proofs.StoredBelow.{as-stored}
 use Rattle.cache.specs.Dcache.{halfSent, halvesSent}
-use Rattle.soundness.proofs.BackingKept.{BackingIs}
-use Rattle.soundness.proofs.CacheKept.{half-sent-kept}
+use Rattle.soundness_laws.proofs.BackingKept.{BackingIs}
+use Rattle.soundness_laws.proofs.CacheKept.{half-sent-kept}
 use Rattle.terms.specs.History.{Stage, afterDrain}
 use Rattle.terms.specs.Rules.{isStored, isDrained}
 use Rattle.terms.proofs.Invariant.{SettledAt, Staged, dirtyAt}
 use Rattle.terms.proofs.Stages.{drained-cleaned, cleaned-before}
-use Rattle.terms.proofs.SettledBytes.{settled-over, settled-same, drained-over, drained-byte, drained-none, unmet-below, half-over, settled-half, outside-stored, settled-buffered, buffered-over, new-stored}
+use Rattle.terms.proofs.SettledBytes.{settled-over, settled-same, drained-over, drained-byte, drained-none, unmet-below, half-over}
+use Rattle.terms.proofs.SettledBytes.{settled-half, outside-stored, settled-buffered, buffered-over, new-stored}
 pub use Rattle.terms.proofs.SettledBytes.{Outside}
 
 -- ---- a dirty half sent out
@@ -42,7 +43,8 @@ module _ (n : ℕ) (dirty : Bool) (b : Backing) (k : BackingIs n b) (block : ℕ
       by false true e = refl
       by false false e = refl
 
-  settled-sent : (pm : List ℕ) (x : ℕ) → (x / 16 ≡ block → getD store (a + x % 16) 0 ≡ getD pm x 0) → SettledAt b pm x → SettledAt (halfSent dirty b block store a) pm x
+  settled-sent : (pm : List ℕ) (x : ℕ) → (x / 16 ≡ block → getD store (a + x % 16) 0 ≡ getD pm x 0) → SettledAt b pm x
+      → SettledAt (halfSent dirty b block store a) pm x
   settled-sent pm x h s = by dirty
     where
       by : (d : Bool) → SettledAt (halfSent d b block store a) pm x
@@ -108,7 +110,8 @@ module _ (n : ℕ) (b : Backing) (k : BackingIs n b) where
     unfolding halvesSent
     below-sent x =
         below-half n (l .high) low-sent low-is (l .frame * 2 + 1) store (a + 16) (omega arith) x
-        ∙ ap (λ (y : ℕ). cond (eqb (x / 16) (l .frame * 2 + 1) && l .high) (getD store (a + 16 + x % 16) 0) y) (below-half n (l .low) b k (l .frame * 2) store a (omega arith) x)
+        ∙ ap (λ (y : ℕ). cond (eqb (x / 16) (l .frame * 2 + 1) && l .high) (getD store (a + 16 + x % 16) 0) y)
+        (below-half n (l .low) b k (l .frame * 2) store a (omega arith) x)
         ∙ case (eqb (x / 32) (l .frame))
         (λ t.
         let e : x / 32 ≡ l .frame = eqb-true (x / 32) (l .frame) t in
@@ -186,7 +189,7 @@ module _ (n : ℕ) (b : Backing) (k : BackingIs n b) where
 
       -- into memory, after a drain
       abbrev pub direct : Backing
-      direct = record { memory = stored w (drained b .memory) (pa .0) v; buffer = drained b .buffer }
+      direct = withMemory (drained b) (stored w (drained b .memory) (pa .0) v)
 
       settled-direct : (x : ℕ) → (Outside (pa .0) w x → below b x ≡ getD pm x 0) → SettledAt direct (stored w pm (pa .0) v) x
       settled-direct x h =

@@ -1,32 +1,32 @@
 -- One call, refused or not: the same answer, and the machines agree again.
 use Prim.Native.Nat.{ℕ, _+_, _/_, _*_}
 use native.Mathlib.Omega.{arith}
-use mathlib.Core.Bool.{Bool, true, false}
 use mathlib.Core.Path.{_≡_, refl, sym, _∙_, ap}
+use mathlib.Core.List.{_∷_}
 use lib.Dec.{eqb}
 use lib.ListN.{length}
 use borrow.Author.Tests.{eqb-true}
+use Rattle.values.specs.Lists.{all}
+use Rattle.values.specs.Counts as counts
 use Rattle.values.specs.declared.Access.{Access}
 use Rattle.values.specs.declared.Call.{Call}
-use Rattle.values.specs.declared.Call.the-variants.{Load, SignedLoad, Store, Read, Write}
-use Rattle.values.specs.declared.Answer.the-variants as answer
+use Rattle.values.specs.declared.Call.the-variants.{Read, Write}
+use Rattle.values.specs.declared.Call.the-variants as calls
 use Rattle.values.proofs.Cases.{case}
-use Rattle.registers.specs.Refusals.{countRefusal, callRefusal}
-use Rattle.translation.proofs.Laws.{load-accepted, store-accepted}
-use Rattle.sound.specs.Machine.{Machine, memoryOf}
-use Rattle.access.specs.Access.{more}
+use Rattle.refusals.specs.Refusals.{refusalIn, row5, callRows, callRefusal}
+use Rattle.refusals.proofs.Rows.{rows-unmet, access-accepted}
+use Rattle.machine.specs.Machine.{Machine, memoryOf, withCounts}
 use Rattle.plain.specs.Plain.{Plain, plainReach, plainDone, plainRefusal, counted, plainly}
-use Rattle.soundness.proofs.Holding.{Holding, holding-of}
-use Rattle.soundness.proofs.AccessKept as kept
-use Rattle.step.specs.Refusals.{refusal}
+use Rattle.soundness_laws.proofs.Holding.{Holding, holding-of}
+use Rattle.step.specs.Meets.{stateRows, stateRefusal, refusal}
 use Rattle.step.specs.Call.{done, served, Numbers}
 use Rattle.step.proofs.SoundKept.{call-accepted, sound-kept}
-use Rattle.step.proofs.StateRefusals.{not-state-refused}
+use Rattle.step.proofs.StateRefusals.{lengths-fit, not-state-refused}
 use Rattle.terms.specs.History.{History, afterServed, after}
 use Rattle.terms.specs.Rules.{AccessAllowed, ServedAllowed, Allowed}
 use Rattle.terms.proofs.Invariant.{Agrees}
 use Rattle.terms.proofs.Alike.{Shared, Alike}
-use Rattle.terms.proofs.AccessesAlike.{load-step, store-step}
+use Rattle.terms.proofs.AccessesAlike.{access-step}
 use Rattle.terms.proofs.WritesAlike.{read-step, write-step}
 
 module _ (m : Machine) (p : Plain) (h : History) (g : Agrees m p h) where
@@ -39,7 +39,7 @@ module _ (m : Machine) (p : Plain) (h : History) (g : Agrees m p h) where
   n = length (memoryOf m)
 
   abbrev m₁ : Machine
-  m₁ = more m 1 0 0 0 0
+  m₁ = withCounts m (counts.counted (m .counts))
 
   abbrev p₁ : Plain
   p₁ = counted p
@@ -60,30 +60,30 @@ module _ (m : Machine) (p : Plain) (h : History) (g : Agrees m p h) where
       }
 
   -- the rules at the counted machine
-  allowed-counted : (a : Access) (store : Bool) → AccessAllowed p h a store → AccessAllowed p₁ h a store
+  allowed-counted : (a : Access) → AccessAllowed p h a → AccessAllowed p₁ h a
   unfolding plainReach
-  allowed-counted a store r = record { r2 = r .r2; r4 = r .r4; r5 = r .r5; r6 = r .r6 }
+  allowed-counted a r = record { r2 = r .r2; r4 = r .r4; r5 = r .r5; r6 = r .r6 }
 
   -- ---- a call that is not refused
 
   done-alike : (c : Call) → callRefusal c ≡ 0 → Numbers c → ServedAllowed p h c → Alike n (done m₁ c) (plainDone p₁ c) (afterServed p h c)
   unfolding plainReach
-  done-alike (Load a) e q r = load-step n m₁ p₁ h shared (holds .entries) a q (load-accepted a e) false (allowed-counted a false r)
-  done-alike (SignedLoad a) e q r = load-step n m₁ p₁ h shared (holds .entries) a q (load-accepted a e) true (allowed-counted a false r)
-  done-alike (Store a v) e q r = store-step n m₁ p₁ h shared (holds .entries) a (q .0) (store-accepted a v e) v (allowed-counted a true r)
+  done-alike (calls.Access a) e q r =
+      access-step n m₁ p₁ h shared (holds .entries) a (q .0) (access-accepted a e .0) (allowed-counted a r)
   done-alike (Read t) e q r = read-step n m₁ p₁ h shared t
   done-alike (Write t v) e q r = write-step n m₁ p₁ h shared t v r
 
   -- ---- any call
 
   module _ (c : Call) (q : Numbers c) (r : Allowed p h c) where
+    -- refusals 1 to 4 do not hold, and the others are decided by the count of calls and by the call alone
     refusal-same : refusal m c ≡ plainRefusal p c
-    unfolding refusal plainRefusal
+    unfolding refusal plainRefusal stateRefusal all
     refusal-same =
-        sym
-        (not-state-refused m (countRefusal (m .counts .calls) (callRefusal c)) (g .formed .memory-lines) (g .formed .memory-short) (g .formed .store-long)
-        (g .is-sound) (g .size))
-        ∙ ap (λ (x : ℕ). countRefusal x (callRefusal c)) (g .calls)
+        let f = g .formed in
+        rows-unmet (stateRows m) (row5 (m .counts .calls) ∷ callRows c) refl
+        (sym (not-state-refused m (lengths-fit n (f .memory-lines) (f .memory-short)) (f .store-long) (g .is-sound) (g .size)))
+        ∙ ap (λ (x : ℕ). refusalIn (row5 x ∷ callRows c)) (g .calls)
 
     -- the answer, and what the machines share after it
     call-alike : Alike n (served m c) (plainly p c) (after p h c)

@@ -16,12 +16,13 @@ use Rattle.values.specs.declared.Search.the-variants.{At, Nothing}
 use Rattle.values.proofs.Cases.{case, clash, or-left, or-right}
 use Rattle.buffer.specs.Buffer.{Backing, drained}
 use Rattle.buffer.proofs.Below.{below}
-use Rattle.cache.specs.Dcache.{Side, find, cleanLine, cleanedAt, cleaned}
+use Rattle.cache.specs.Dcache.{Side, sideFrom, find, cleanLine, cleanedAt, cleaned}
 use Rattle.cache.proofs.PutGet.{SameLine, line-cleaned, other-cleaned, same-cleaned-at, backing-cleaned, clean-none, cleaned-as}
 use Rattle.cache.proofs.Unchanged.{store-cleaned-at}
 use Rattle.cache.proofs.Finds.{found}
-use Rattle.soundness.proofs.CacheKept.{SideIs}
-use Rattle.terms.specs.History.{Stage, never, stored, cleaned as isCleaned, drained as isDrainedStage, flushed, History, afterClean, afterDrain, afterLineClean, afterBufferDrain, lineOfWord}
+use Rattle.soundness_laws.proofs.CacheKept.{SideIs}
+use Rattle.terms.specs.History.{Stage, never, stored, cleaned as isCleaned, drained as isDrainedStage, flushed, History}
+use Rattle.terms.specs.History.{afterClean, afterDrain, afterLineClean, afterBufferDrain, lineOfWord}
 use Rattle.terms.specs.Rules.{isStored, isDrained}
 use Rattle.terms.proofs.Invariant.{at, virtualAt, dirtyAt, Undirty, Staged, byWord, byLine, SideAgrees}
 use Rattle.terms.proofs.BackingAgrees.{below-drained, staged-drained}
@@ -38,7 +39,7 @@ drain-stored isDrainedStage = refl
 drain-stored flushed = refl
 
 pub drained-side : (n : ℕ) (s : Side) (k : SideIs n s) (pm : List ℕ) (h : History) → SideAgrees s pm h
-    → SideAgrees (record { cache = s .cache; backing = drained (s .backing) }) pm (afterBufferDrain h)
+    → SideAgrees (sideFrom (s .cache) (drained (s .backing))) pm (afterBufferDrain h)
 drained-side n s k pm h g =
     record {
       cache = record {
@@ -83,8 +84,11 @@ module _ (n : ℕ) (s : Side) (k : SideIs n s) (pm : List ℕ) (h : History) (g 
         clash {b = false} (subst (λ (y : Line). (y .low || y .high) ≡ true) f d) refl)
         (λ t. other-cleaned s i j (eqb-false j i t))
 
-    dirty-kept : (P : ℕ → Line → Type 0) → ((j : ℕ) → at (s .cache .lines) j .valid ≡ true → (at (s .cache .lines) j .low || at (s .cache .lines) j .high) ≡ true → P j (at (s .cache .lines) j))
-        → (j : ℕ) → at (s′ .cache .lines) j .valid ≡ true → (at (s′ .cache .lines) j .low || at (s′ .cache .lines) j .high) ≡ true → P j (at (s′ .cache .lines) j)
+    -- what holds of every valid line with a dirty half
+    abbrev EachDirty : (ℕ → Line → Type 0) → List Line → Type 0
+    EachDirty P lines = (j : ℕ) → at lines j .valid ≡ true → (at lines j .low || at lines j .high) ≡ true → P j (at lines j)
+
+    dirty-kept : (P : ℕ → Line → Type 0) → EachDirty P (s .cache .lines) → EachDirty P (s′ .cache .lines)
     dirty-kept P old j u d =
         let e = dirty-other j d in
         subst (P j) (sym e) (old j (was-valid j u) (subst (λ (y : Line). (y .low || y .high) ≡ true) e d))

@@ -1,37 +1,43 @@
 -- What follows from term 3, proved.
-use Prim.Native.Nat.{ℕ, zero, suc, _+_, _*_, _/_, _%_, _<_, _≤_, min}
+use Prim.Native.Nat.{ℕ, zero, suc, _+_, _*_, _/_, _<_, _≤_, min}
 use native.Mathlib.Omega.{arith}
 use mathlib.Core.Bool.{Bool, true, false, _||_}
 use mathlib.Core.Path.{_≡_, refl, sym, _∙_, ap, subst}
 use mathlib.Core.List.{List, [], _∷_, _++_, map}
 use lib.Dec.{eqb, ltb}
 use lib.ListN.{length, getD, drop, List·getD-eq-default}
-use borrow.Author.Tests.{ne-eqb, ltb-true, ltb-false}
-use Rattle.values.specs.Tests.{any}
+use borrow.Author.Tests.{ne-eqb, ltb-true, ltb-false, not-false}
+use Rattle.values.specs.Lists.{any}
+use Rattle.values.specs.Counts.{countLimit}
+use Rattle.values.specs.Rows.{firstMet}
 use Rattle.values.specs.declared.Call.{Call}
 use Rattle.values.specs.declared.Answer.{Answer}
 use Rattle.values.proofs.Cases.{case, clash}
+use Rattle.refusals.specs.Refusals.{lengthFits, row1, row2}
+use Rattle.refusals.proofs.Rows.{row-passed}
 use Rattle.trace.specs.Calls.{isCallAt}
 use Rattle.trace.specs.Codes.{codeOf}
 use Rattle.trace.specs.Fold.{callsIn, Left, finalOf, leftOf}
 use Rattle.trace.proofs.Folds.{final-append}
-use Rattle.sound.specs.Machine.{Machine, memoryOf}
+use Rattle.machine.specs.Machine.{Machine, memoryOf}
+use Rattle.step.specs.Meets.{startRefusal}
 use Rattle.step.specs.Start as starts
 use Rattle.step.specs.Start.{started}
 use Rattle.step.specs.Call.{Is32}
-use Rattle.step.specs.Batch.{run}
-use Rattle.step.proofs.SoundKept.{start-sound}
+use Rattle.step.specs.Run.{run}
 use Rattle.step.proofs.Runs.{numbers-of}
 use Rattle.sa110.specs.State.{machineIn, ranOf}
 use Rattle.sa110.specs.declared.Started.{Started}
 use Rattle.sa110.specs.declared.Ran as library
 use Rattle.plain.specs.Plain.{Plain, plainStart, plainRefusal, plainly, plainNext, plainAnswered, plainWrite, plainFinal}
-use Rattle.plain.specs.Run.{PlainLeft, plainRun}
+use Rattle.plain.specs.Run.{PlainLeft, withRefusal, leftBy, plainRun}
 use Rattle.plain.proofs.Runs.{run-by}
-use Rattle.terms.specs.History.{Stage, never, stored, cleaned, drained, flushed, History, noHistory, afterClean, afterDrain, afterWrite, afterLineClean, afterBufferDrain, after, historyAfter}
+use Rattle.terms.specs.History.{Stage, never, stored, cleaned, drained, flushed, History, noHistory, afterClean, afterDrain}
+use Rattle.terms.specs.History.{afterWrite, afterLineClean, afterBufferDrain, after, historyAfter}
 use Rattle.terms.specs.Rules.{isStored, isDrained, Allowed, Keeps, Settled}
 use Rattle.terms.specs.Term3.{AllNumbers, Run}
-use Rattle.terms.specs.Corollaries.{All32, callsMade, SettledBy, LentRun, SameRun, LentRuns, CodeRun, CodeAgrees, AnyStore, CodeAnyStore, cleanLine, drainBuffer, cleanAndDrain, StoredThrough, BeforeCleaning, AfterCleaning, CleanedMemory}
+use Rattle.terms.specs.Corollaries.{All32, callsMade, SettledBy, LentRun, SameRun, LentRuns, CodeRun, CodeAgrees, AnyStore, CodeAnyStore}
+use Rattle.terms.specs.Corollaries.{cleanLine, drainBuffer, cleanAndDrain, StoredThrough, BeforeCleaning, AfterCleaning, CleanedMemory}
 use Rattle.terms.proofs.Term3.{term3}
 
 -- ---- 1. a run over lent lists
@@ -71,12 +77,14 @@ module _ (memory store list answers : List ℕ) (r : LentRun memory store list a
       }
 
   -- a memory on which a start is served has a length that fits
-  plain-is : plainRun memory list answers ≡ record { left = leftOf plainNext plainAnswered (plainStart memory) cs answers; refusal = 0 }
-  plain-is =
-      let s = start-sound memory store (r .memory-bytes) (r .store-bytes) (r .served-start) in
-      let whole : length memory % 32 ≡ 0 = subst (λ (n : ℕ). n % 32 ≡ 0) (s .2) (s .0 .memory-lines) in
-      let short : length memory ≤ 16777216 = subst (λ (n : ℕ). n ≤ 16777216) (s .2) (s .0 .memory-short) in
-      run-by memory list answers (min (length list / 5) (length answers)) whole short refl
+  length-fits : lengthFits (length memory) ≡ true
+  unfolding startRefusal
+  length-fits =
+      not-false (lengthFits (length memory))
+      (row-passed (row1 (length memory)) (row2 (length store) ∷ []) (omega arith) (r .served-start) .0)
+
+  plain-is : plainRun memory list answers ≡ withRefusal (leftBy (plainStart memory) cs answers) 0
+  plain-is = run-by memory list answers (min (length list / 5) (length answers)) length-fits refl
 
   same-run : SameRun memory store list answers
   unfolding run leftOf
@@ -170,16 +178,16 @@ drain-settles drained e = refl
 drain-settles flushed e = refl
 
 -- a clean and a drain, on the plain machine and in the history
-module _ (p : Plain) (h : History) (low : p .calls < 4294967295) where
-  uncounted : eqb (p .calls) 4294967295 ≡ false
-  uncounted = ne-eqb (p .calls) 4294967295 (λ e. omega arith)
+module _ (p : Plain) (h : History) (low : p .calls < countLimit) where
+  uncounted : eqb (p .calls) countLimit ≡ false
+  uncounted = ne-eqb (p .calls) countLimit (λ e. omega arith)
 
   clean-served : (v : ℕ) → plainRefusal p (cleanLine v) ≡ 0
-  unfolding plainRefusal
+  unfolding plainRefusal firstMet
   clean-served v = rw uncounted
 
   drain-served : plainRefusal p drainBuffer ≡ 0
-  unfolding plainRefusal
+  unfolding plainRefusal firstMet
   drain-served = rw uncounted
 
   clean-memory : (v : ℕ) → plainly p (cleanLine v) .plain .memory ≡ p .memory
@@ -221,10 +229,10 @@ record Cleans (p : Plain) (h : History) (vs : List ℕ) : Type 0 where
   settled : Settled (historyAfter p h (cleanAndDrain vs))
   memory : plainFinal p (cleanAndDrain vs) .memory ≡ p .memory
 
-cleans : (vs : List ℕ) (p : Plain) (h : History) → StoredThrough vs h → p .calls + length vs + 1 ≤ 4294967295 → Cleans p h vs
+cleans : (vs : List ℕ) (p : Plain) (h : History) → StoredThrough vs h → p .calls + length vs + 1 ≤ countLimit → Cleans p h vs
 unfolding Keeps finalOf historyAfter any
 cleans [] p h s n =
-    let low : p .calls < 4294967295 = omega arith in
+    let low : p .calls < countLimit = omega arith in
     record {
       keeps = (drain-allowed p h, tt);
       settled = subst Settled (sym (drain-history p h low))
@@ -232,18 +240,18 @@ cleans [] p h s n =
       memory = drain-memory p h low;
     }
 cleans (v ∷ vs) p h s n =
-    let low : p .calls < 4294967295 = omega arith in
+    let low : p .calls < countLimit = omega arith in
     let e = clean-calls p h low v in
     let r = cleans vs (plainly p (cleanLine v) .plain) (after p h (cleanLine v))
     (subst (StoredThrough vs) (sym (clean-history p h low v)) (clean-through h v vs s)) (omega arith)
     in
     record { keeps = (clean-allowed p h v, r .keeps); settled = r .settled; memory = r .memory ∙ clean-memory p h low v }
 
-cleaning-numbers : (vs : List ℕ) → ((i : ℕ) → i < length vs → getD vs i 0 < 134217728) → AllNumbers (cleanAndDrain vs)
+cleaning-numbers : (vs : List ℕ) → ((i : ℕ) → i < length vs → getD vs i 0 < 0x8000000) → AllNumbers (cleanAndDrain vs)
 unfolding AllNumbers
 cleaning-numbers [] f = (omega arith, tt)
 cleaning-numbers (v ∷ vs) f =
-    let b : v < 134217728 = f 0 (omega arith) in (omega arith, cleaning-numbers vs (λ i g. f (suc i) (omega arith)))
+    let b : v < 0x8000000 = f 0 (omega arith) in (omega arith, cleaning-numbers vs (λ i g. f (suc i) (omega arith)))
 
 module _ (memory store : List ℕ) (calls : List Call) (vs : List ℕ) (c : BeforeCleaning memory store calls vs) where
   abbrev p : Plain
@@ -266,7 +274,8 @@ module _ (memory store : List ℕ) (calls : List Call) (vs : List ℕ) (c : Befo
         numbers = numbers-append (cleanAndDrain vs) calls (f .numbers) (cleaning-numbers vs (c .lines));
         keeps = keeps-append (cleanAndDrain vs) calls (plainStart memory) noHistory (f .keeps) (k .keeps);
       } in
-      let settled : SettledBy memory (calls ++ cleanAndDrain vs) = subst Settled (sym (history-append (cleanAndDrain vs) calls (plainStart memory) noHistory)) (k .settled) in
+      let settled : SettledBy memory (calls ++ cleanAndDrain vs) =
+      subst Settled (sym (history-append (cleanAndDrain vs) calls (plainStart memory) noHistory)) (k .settled) in
       let after = ap (λ (q : Plain). q .memory) (final-append plainNext plainAnswered (plainStart memory) calls (cleanAndDrain vs)) in
       record {
         keeps = run;

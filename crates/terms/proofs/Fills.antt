@@ -16,11 +16,11 @@ use Rattle.values.specs.declared.Search.the-variants.{Nothing}
 use Rattle.values.proofs.Cases.{case, clash}
 use Rattle.buffer.specs.Buffer.{Backing, ready}
 use Rattle.buffer.proofs.Below.{below}
-use Rattle.cache.specs.Dcache.{Side, find, victim, freshLine, halvesSent, filled}
+use Rattle.cache.specs.Dcache.{Side, sideFrom, find, victim, freshLine, halvesSent, filled}
 use Rattle.cache.proofs.PutGet.{filled-backing, line-filled, other-filled, byte-filled, byte-before-filled, byte-behind-filled}
 use Rattle.cache.proofs.Unchanged.{victim-low}
-use Rattle.soundness.proofs.BackingKept.{BackingIs}
-use Rattle.soundness.proofs.CacheKept.{SideIs, halves-kept}
+use Rattle.soundness_laws.proofs.BackingKept.{BackingIs}
+use Rattle.soundness_laws.proofs.CacheKept.{SideIs, halves-kept}
 use Rattle.terms.specs.History.{Stage, History}
 use Rattle.terms.specs.Rules.{isStored}
 use Rattle.terms.proofs.Invariant.{at, dirtyAt, Undirty, Staged, byWord, byLine, SideAgrees}
@@ -30,7 +30,7 @@ use Rattle.terms.proofs.SentLines.{sent-below, sent-staged}
 
 -- the buffer made ready for a read
 pub ready-side : (n : ℕ) (s : Side) (k : SideIs n s) (pm : List ℕ) (h : History) (a w : ℕ) → SideAgrees s pm h
-    → SideAgrees (record { cache = s .cache; backing = ready (s .backing) a w }) pm h
+    → SideAgrees (sideFrom (s .cache) (ready (s .backing) a w)) pm h
 ready-side n s k pm h a w g =
     record {
       cache = g .cache;
@@ -94,7 +94,8 @@ module _ (n : ℕ) (s : Side) (k : SideIs n s) (pm : List ℕ) (h : History) (g 
     read-byte x b =
         ap (λ (y : Backing). getD (y .memory) (pa .0 / 32 * 32 + x) 0) (filled-backing s va pa)
         ∙ ready-memory-below n gone gone-is (pa .0 / 32 * 32) 32 (pa .0 / 32 * 32 + x) (omega arith) (omega arith)
-        ∙ sent-below n s k pm h g j low (pa .0 / 32 * 32 + x) (λ i d v f. absurd (not-held i v (f ∙ (let e : (pa .0 / 32 * 32 + x) / 32 ≡ pa .0 / 32 = omega arith in e))))
+        ∙ sent-below n s k pm h g j low (pa .0 / 32 * 32 + x)
+        (λ i d v f. let e : (pa .0 / 32 * 32 + x) / 32 ≡ pa .0 / 32 = omega arith in absurd (not-held i v (f ∙ e)))
 
     store-fits : j * 32 + 32 ≤ length (s .cache .store)
     store-fits = omega (arith, k .cache .shape .store-long, low)

@@ -13,11 +13,11 @@ use Rattle.values.specs.declared.Line.{Line}
 use Rattle.values.specs.declared.Search.{Search}
 use Rattle.values.specs.declared.Search.the-variants.{At, Nothing}
 use Rattle.values.proofs.Cases.{case, clash, or-left, or-right}
-use Rattle.cache.specs.Dcache.{Dcache, Side, find, flushedAt, lineFlushed, allFlushed}
+use Rattle.cache.specs.Dcache.{Dcache, Side, sideFrom, find, flushedAt, lineFlushed, allFlushed}
 use Rattle.cache.proofs.PutGet.{line-flushed, other-flushed, flush-none, flushed-as, all-flushed}
 use Rattle.cache.proofs.Unchanged.{store-flushed-at}
 use Rattle.cache.proofs.Finds.{found}
-use Rattle.soundness.proofs.CacheKept.{SideIs}
+use Rattle.soundness_laws.proofs.CacheKept.{SideIs}
 use Rattle.terms.specs.History.{Stage, never, stored, cleaned, drained, flushed, History, afterTlbFlush, afterWholeFlush, afterWholeTlbFlush}
 use Rattle.terms.specs.Rules.{isStored, isDrained}
 use Rattle.terms.proofs.Invariant.{at, dirtyAt, Undirty, byWord, SideAgrees}
@@ -42,7 +42,7 @@ module _ (n : ℕ) (s : Side) (k : SideIs n s) (pm : List ℕ) (h : History) (g 
   -- ---- the whole Dcache
 
   pub all-flushed-side : ((l : ℕ) → isStored (h .lineStage l) ≡ false)
-      → SideAgrees (record { cache = allFlushed (s .cache); backing = s .backing }) pm (afterWholeFlush h)
+      → SideAgrees (sideFrom (allFlushed (s .cache)) (s .backing)) pm (afterWholeFlush h)
   all-flushed-side r =
       record {
         cache = record {
@@ -97,7 +97,7 @@ module _ (n : ℕ) (s : Side) (k : SideIs n s) (pm : List ℕ) (h : History) (g 
           let e = other-flushed (s .cache) i j (eqb-false j i t) in
           subst (λ (y : Line). dirtyAt y x ≡ false) e (u j (ap (λ (y : Line). y .valid) e ∙ v) (ap (λ (y : Line). y .frame) e ∙ f)))
 
-      flushed-found : SideAgrees (record { cache = flushedAt (s .cache) (At i); backing = s .backing }) pm h
+      flushed-found : SideAgrees (sideFrom (flushedAt (s .cache) (At i)) (s .backing)) pm h
       flushed-found =
           record {
             cache = record {
@@ -116,15 +116,14 @@ module _ (n : ℕ) (s : Side) (k : SideIs n s) (pm : List ℕ) (h : History) (g 
             lines = g .lines;
           }
 
-    flushed-at : (x : Search) → find (s .cache .lines) va ≡ x → SideAgrees (record { cache = flushedAt (s .cache) x; backing = s .backing }) pm h
+    flushed-at : (x : Search) → find (s .cache .lines) va ≡ x → SideAgrees (sideFrom (flushedAt (s .cache) x) (s .backing)) pm h
     flushed-at (At i) e = flushed-found i e
     flushed-at Nothing e =
-        subst (λ (c : Dcache). SideAgrees (record { cache = c; backing = s .backing }) pm h) (sym (flush-none (s .cache)))
-        (record { cache = g .cache; under = g .under; words = g .words; lines = g .lines })
+        subst (λ (c : Dcache). SideAgrees (sideFrom c (s .backing)) pm h) (sym (flush-none (s .cache))) g
 
-    pub line-flushed-side : SideAgrees (record { cache = lineFlushed (s .cache) va; backing = s .backing }) pm h
+    pub line-flushed-side : SideAgrees (sideFrom (lineFlushed (s .cache) va) (s .backing)) pm h
     line-flushed-side =
-        subst (λ (c : Dcache). SideAgrees (record { cache = c; backing = s .backing }) pm h)
+        subst (λ (c : Dcache). SideAgrees (sideFrom c (s .backing)) pm h)
         (sym (flushed-as (s .cache) va (find (s .cache .lines) va) refl)) (flushed-at (find (s .cache .lines) va) refl)
 
 -- ---- the TLB

@@ -15,7 +15,7 @@ use Rattle.values.specs.declared.Search.the-variants.{At, Nothing}
 use Rattle.values.proofs.Cases.{case, clash, and-both}
 use Rattle.cache.specs.Dcache.{Dcache, find}
 use Rattle.cache.proofs.Finds.{found, missed}
-use Rattle.soundness.proofs.CacheKept.{CacheIs}
+use Rattle.soundness_laws.proofs.CacheKept.{CacheIs}
 use Rattle.terms.proofs.Invariant.{at, virtualAt, OneToOne}
 
 module _ (n : ℕ) (c : Dcache) (k : CacheIs n c) where
@@ -27,7 +27,8 @@ module _ (n : ℕ) (c : Dcache) (k : CacheIs n c) where
   valid-low i v =
       case (ltb i 512) (λ t. ltb-true i 512 t)
       (λ t.
-      let e : at lines i ≡ emptyLine = List·getD-eq-default lines emptyLine {n = i} (let h = ltb-false i 512 t in let g = k .shape .lines-long in omega arith) in
+      let h = ltb-false i 512 t in
+      let e : at lines i ≡ emptyLine = List·getD-eq-default lines emptyLine {n = i} (omega (arith, k .shape .lines-long)) in
       clash v (ap (λ (l : Line). l .valid) e))
 
   -- ---- one virtual line

@@ -15,10 +15,10 @@ use Rattle.values.specs.declared.Search.the-variants.{At}
 use Rattle.values.proofs.Cases.{case, clash}
 use Rattle.words.specs.Words.{stored}
 use Rattle.buffer.proofs.Below.{below}
-use Rattle.cache.specs.Dcache.{Dcache, Side, find, marked, hitStore}
+use Rattle.cache.specs.Dcache.{Dcache, Side, sideFrom, find, marked, hitStore}
 use Rattle.cache.proofs.PutGet.{SameLine, line-stored, other-stored, same-stored, byte-stored, byte-before-stored, byte-behind-stored}
 use Rattle.cache.proofs.Finds.{found}
-use Rattle.soundness.proofs.CacheKept.{SideIs}
+use Rattle.soundness_laws.proofs.CacheKept.{SideIs}
 use Rattle.translation.specs.declared.Place.{Place}
 use Rattle.terms.specs.History.{History, withStore}
 use Rattle.terms.specs.Rules.{isStored}
@@ -182,7 +182,7 @@ module _ (n : ℕ) (s : Side) (k : SideIs n s) (pm : List ℕ) (long : length pm
       let b : (at (c .lines) j .low || at (c .lines) j .high) ≡ true = subst (λ (y : Line). (y .low || y .high) ≡ true) r d in
       rw (r, f) (g .cache .dirty-stored j (was-valid j u) b, g .cache .dirty-through j (was-valid j u) b))
 
-  pub hit-store-side : SideAgrees (record { cache = hitStore (s .cache) i va w v; backing = s .backing }) (stored w pm (l .address .0) v) (withStore h va l)
+  pub hit-store-side : SideAgrees (sideFrom (hitStore (s .cache) i va w v) (s .backing)) (stored w pm (l .address .0) v) (withStore h va l)
   hit-store-side =
       record {
         cache = record {

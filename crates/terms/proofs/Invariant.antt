@@ -5,11 +5,12 @@ use mathlib.Core.Path.{_≡_}
 use mathlib.Core.List.{List}
 use lib.Dec.{ltb}
 use lib.ListN.{length, getD}
-use Rattle.values.specs.Tests.{all}
+use Rattle.values.specs.Lists.{all}
 use Rattle.values.specs.Empty.{emptyEntry, emptyLine}
 use Rattle.values.specs.declared.VirtualAddress.{VirtualAddress}
 use Rattle.values.specs.declared.Entry.{Entry}
 use Rattle.values.specs.declared.Line.{Line}
+use Rattle.bus.specs.Physical.{physical}
 use Rattle.walk.specs.Walk.{walk}
 use Rattle.walk.specs.Reads.{wordsRead}
 use Rattle.walk.specs.declared.Mapping.the-variants.{Found}
@@ -17,12 +18,12 @@ use Rattle.tlb.specs.Tlb.{covers}
 use Rattle.buffer.specs.Buffer.{Backing, slotAt, masks}
 use Rattle.buffer.proofs.Below.{below}
 use Rattle.cache.specs.Dcache.{Dcache, Side}
-use Rattle.sound.specs.Machine.{Machine, memoryOf}
-use Rattle.sound.specs.Soundness.{sound}
-use Rattle.sound.specs.Formed.{Formed}
+use Rattle.soundness_test.specs.Soundness.{sound}
+use Rattle.soundness_test.specs.Formed.{Formed}
 use Rattle.plain.specs.Plain.{Plain}
 use Rattle.terms.specs.History.{Stage, History}
 use Rattle.terms.specs.Rules.{isStored, isFlushed, isDrained}
+use Rattle.machine.specs.Machine.{Machine, memoryOf}
 
 -- ---- the write buffer and memory, with the plain machine's memory `pm`
 
@@ -90,12 +91,12 @@ pub record SideAgrees (s : Side) (pm : List ℕ) (h : History) : Type 0 where
 
 -- every word that the plain walk of an address reads has, since its last store, been cleaned, drained, and the TLB flushed
 abbrev pub Readable : List ℕ → ℕ → History → VirtualAddress → Type 0
-Readable pm base h va = all (λ (w : ℕ). isFlushed (h .wordStage w)) (wordsRead pm base va) ≡ true
+Readable pm base h va = all (λ (w : ℕ). isFlushed (h .wordStage w)) (wordsRead (physical pm) base va) ≡ true
 
 -- an entry that covers an address is what the plain walk finds for it
 pub record TlbAgrees (entries : List Entry) (base : ℕ) (pm : List ℕ) (h : History) : Type 0 where
   pub mapped : h .baseStale ≡ false → (i : ℕ) (va : VirtualAddress) → covers va (getD entries i emptyEntry) ≡ true → Readable pm base h va
-      → walk pm base va ≡ Found (getD entries i emptyEntry)
+      → walk (physical pm) base va ≡ Found (getD entries i emptyEntry)
 
 -- ---- the machines
 

@@ -1,3 +1,5 @@
+pub mod Answers
+pub mod Words
 pub mod Term1
 pub mod Term2
 pub mod Invariant
@@ -16,6 +18,7 @@ pub mod Fills
 pub mod Cleans
 pub mod Flushes
 pub mod Alike
+pub mod Passing
 pub mod LoadsAlike
 pub mod StoresAlike
 pub mod AccessesAlike

@@ -10,10 +10,10 @@ use Rattle.values.specs.Addresses.{virtualLine, physicalLine}
 use Rattle.values.specs.declared.VirtualAddress.{VirtualAddress}
 use Rattle.values.specs.declared.Search.the-variants.{Nothing}
 use Rattle.words.specs.Words.{stored}
-use Rattle.buffer.specs.Buffer.{Backing, drained, buffered}
+use Rattle.buffer.specs.Buffer.{Backing, withMemory, drained, buffered}
 use Rattle.buffer.proofs.Below.{below}
-use Rattle.cache.specs.Dcache.{Side, find}
-use Rattle.soundness.proofs.CacheKept.{SideIs}
+use Rattle.cache.specs.Dcache.{Side, sideFrom, find}
+use Rattle.soundness_laws.proofs.CacheKept.{SideIs}
 use Rattle.translation.specs.declared.Place.{Place}
 use Rattle.terms.specs.History.{History, withStore}
 use Rattle.terms.proofs.Invariant.{at, Staged, byWord, byLine, SideAgrees}
@@ -37,7 +37,7 @@ module _ (n : ℕ) (s : Side) (k : SideIs n s) (pm : List ℕ) (long : length pm
   -- a backing whose bytes below are the plain machine's after the store where they were before, or are stored
   side-with : (b : Backing) → ((x : ℕ) → (Outside a w x → below (s .backing) x ≡ getD pm x 0) → below b x ≡ getD pm′ x 0)
       → Staged b pm′ (byWord (withStore h va l)) → Staged b pm′ (byLine (withStore h va l))
-      → SideAgrees (record { cache = s .cache; backing = b }) pm′ (withStore h va l)
+      → SideAgrees (sideFrom (s .cache) b) pm′ (withStore h va l)
   side-with b f p q =
       record {
         cache = record {
@@ -61,21 +61,24 @@ module _ (n : ℕ) (s : Side) (k : SideIs n s) (pm : List ℕ) (long : length pm
     half : a % 16 + w ≤ 16
     half = omega arith
 
-    pub buffered-side : SideAgrees (record { cache = s .cache; backing = buffered (s .backing) (l .address) w v }) (stored w pm (l .address .0) v) (withStore h va l)
-    buffered-side =
-        side-with (buffered (s .backing) (l .address) w v)
-        (below-buffered n (s .backing) (k .backing) pm long w v (byWord h) (byWord (withStore h va l)) (l .address) wide half block-inside)
-        (staged-buffered n (s .backing) (k .backing) pm long w v (byWord h) (byWord (withStore h va l)) (l .address) wide half block-inside (words-stored h va l w fits) (g .words))
-        (staged-buffered n (s .backing) (k .backing) pm long w v (byLine h) (byLine (withStore h va l)) (l .address) wide half block-inside (lines-stored h va l w fits) (g .lines))
+    abbrev b : Backing
+    b = s .backing
 
-    pub direct-side : SideAgrees
-        (record {
-          cache = s .cache;
-          backing = record { memory = stored w (drained (s .backing) .memory) (l .address .0) v; buffer = drained (s .backing) .buffer };
-        })
+    pub buffered-side : SideAgrees (sideFrom (s .cache) (buffered (s .backing) (l .address) w v)) (stored w pm (l .address .0) v) (withStore h va l)
+    buffered-side =
+        side-with (buffered b (l .address) w v)
+        (below-buffered n b (k .backing) pm long w v (byWord h) (byWord (withStore h va l)) (l .address) wide half block-inside)
+        (staged-buffered n b (k .backing) pm long w v (byWord h) (byWord (withStore h va l)) (l .address) wide half block-inside
+        (words-stored h va l w fits) (g .words))
+        (staged-buffered n b (k .backing) pm long w v (byLine h) (byLine (withStore h va l)) (l .address) wide half block-inside
+        (lines-stored h va l w fits) (g .lines))
+
+    pub direct-side : SideAgrees (sideFrom (s .cache) (withMemory (drained (s .backing)) (stored w (drained (s .backing) .memory) (l .address .0) v)))
         (stored w pm (l .address .0) v) (withStore h va l)
     direct-side =
-        side-with (record { memory = stored w (drained (s .backing) .memory) (l .address .0) v; buffer = drained (s .backing) .buffer })
-        (below-direct n (s .backing) (k .backing) pm long w v (byWord h) (byWord (withStore h va l)) (l .address) wide half block-inside)
-        (staged-direct n (s .backing) (k .backing) pm long w v (byWord h) (byWord (withStore h va l)) (l .address) wide half block-inside (words-stored h va l w fits) (g .words))
-        (staged-direct n (s .backing) (k .backing) pm long w v (byLine h) (byLine (withStore h va l)) (l .address) wide half block-inside (lines-stored h va l w fits) (g .lines))
+        side-with (withMemory (drained b) (stored w (drained b .memory) (l .address .0) v))
+        (below-direct n b (k .backing) pm long w v (byWord h) (byWord (withStore h va l)) (l .address) wide half block-inside)
+        (staged-direct n b (k .backing) pm long w v (byWord h) (byWord (withStore h va l)) (l .address) wide half block-inside
+        (words-stored h va l w fits) (g .words))
+        (staged-direct n b (k .backing) pm long w v (byLine h) (byLine (withStore h va l)) (l .address) wide half block-inside
+        (lines-stored h va l w fits) (g .lines))

@@ -1,19 +1,20 @@
 -- A walk whose words all meet a test, in two memories that have the same words wherever the test holds.
-use Prim.Native.Nat.{ℕ, _+_, _*_, _%_}
-use native.Mathlib.Omega.{arith}
+use Prim.Native.Nat.{ℕ, _*_, _%_}
 use mathlib.Core.Bool.{Bool, true}
 use mathlib.Core.Path.{_≡_, refl, _∙_, ap}
 use mathlib.Core.List.{List, [], _∷_, _++_}
 use lib.Dec.{eqb}
-use lib.ListN.{length}
 use borrow.Author.Tests.{eqb-true}
-use Rattle.values.specs.Tests.{all, any}
+use Rattle.values.specs.Lists.{all, any}
 use Rattle.values.specs.declared.VirtualAddress.{VirtualAddress}
+use Rattle.values.specs.declared.PhysicalAddress.{PhysicalAddress}
 use Rattle.values.proofs.Cases.{case, clash, and-left, and-right, and-both, or-cases}
 use Rattle.words.specs.Words.{valueAt}
-use Rattle.walk.specs.declared.Descriptor.{Descriptor}
-use Rattle.walk.specs.declared.Descriptor.the-variants.{Word, Outside}
-use Rattle.walk.specs.Walk.{descriptorAt, firstAddress, secondAddress, walk}
+use Rattle.bus.specs.Physical.{Physical, aborts}
+use Rattle.bus.specs.Reader.{descriptorAt}
+use Rattle.bus.specs.declared.Descriptor.{Descriptor}
+use Rattle.bus.specs.declared.Descriptor.the-variants.{Word, Outside}
+use Rattle.walk.specs.Walk.{firstAddress, secondAddress, walk}
 use Rattle.walk.specs.Reads.{readAt, secondReads, wordsRead}
 use Rattle.walk.proofs.Depends.{Agree, descriptor-same, walk-same}
 
@@ -50,8 +51,8 @@ all-weaker f g i (x ∷ xs) e =
 
 -- ---- the walk and the words that it reads
 
-module _ (m l : List ℕ) (long : length m ≡ length l) (f : ℕ → Bool)
-    (same : (w : ℕ) → f w ≡ true → valueAt 4 m (4 * w) ≡ valueAt 4 l (4 * w)) where
+module _ (m l : Physical) (same-aborts : (pa : PhysicalAddress) → aborts m pa ≡ aborts l pa) (f : ℕ → Bool)
+    (same : (w : ℕ) → f w ≡ true → valueAt 4 (m .bytes) (w * 4) ≡ valueAt 4 (l .bytes) (w * 4)) where
   agree : (ws : List ℕ) → all f ws ≡ true → Agree m l ws
   agree ws e w h = same w (all-has f ws e w h)
 
@@ -63,12 +64,12 @@ module _ (m l : List ℕ) (long : length m ≡ length l) (f : ℕ → Bool)
       (λ t.
       let pa = secondAddress w va in
       let k : all f (readAt pa (descriptorAt m pa)) ≡ true = rw t at e in
-      rw t (ap (readAt pa) (descriptor-same m l long pa (omega arith) (agree (readAt pa (descriptorAt m pa)) k))))
+      rw t (ap (readAt pa) (descriptor-same m l same-aborts pa (agree (readAt pa (descriptorAt m pa)) k))))
       (λ t. rw t)
 
-  module _ (base : ℕ) (va : VirtualAddress) (aligned : base % 4 ≡ 0) (e : all f (wordsRead m base va) ≡ true) where
+  module _ (base : ℕ) (va : VirtualAddress) (e : all f (wordsRead m base va) ≡ true) where
     pub walk-where : walk m base va ≡ walk l base va
-    walk-where = walk-same m l long base va aligned (agree (wordsRead m base va) e)
+    walk-where = walk-same m l same-aborts base va (agree (wordsRead m base va) e)
 
     pub reads-where : wordsRead m base va ≡ wordsRead l base va
     unfolding wordsRead
@@ -76,6 +77,6 @@ module _ (m l : List ℕ) (long : length m ≡ length l) (f : ℕ → Bool)
         let pa = firstAddress base va in
         let d = descriptorAt m pa in
         let front = all-front f (readAt pa d) (secondReads m va d) e in
-        let q : d ≡ descriptorAt l pa = descriptor-same m l long pa (omega arith) (agree (readAt pa d) front) in
+        let q : d ≡ descriptorAt l pa = descriptor-same m l same-aborts pa (agree (readAt pa d) front) in
         let r = second-reads-where va d (all-back f (readAt pa d) (secondReads m va d) e) in
         ap (λ (ws : List ℕ). readAt pa d ++ ws) r ∙ ap (λ (x : Descriptor). readAt pa x ++ secondReads l va x) q

@@ -14,7 +14,7 @@ use Rattle.buffer.specs.Buffer.{Backing}
 use Rattle.buffer.proofs.Below.{below}
 use Rattle.cache.specs.Dcache.{Side, halvesSent}
 use Rattle.cache.proofs.Unchanged.{none-sent}
-use Rattle.soundness.proofs.CacheKept.{SideIs}
+use Rattle.soundness_laws.proofs.CacheKept.{SideIs}
 use Rattle.terms.specs.History.{Stage, History}
 use Rattle.terms.proofs.Invariant.{at, dirtyAt, Staged, SideAgrees}
 use Rattle.terms.proofs.BackingAgrees.{below-sent, staged-sent}
@@ -28,7 +28,8 @@ module _ (n : ℕ) (s : Side) (k : SideIs n s) (pm : List ℕ) (h : History) (g 
 
   -- no line but line j holds byte x in a dirty half
   abbrev pub OthersUndirty : ℕ → Type 0
-  OthersUndirty x = (i : ℕ) → i ≢ j → at (s .cache .lines) i .valid ≡ true → at (s .cache .lines) i .frame ≡ x / 32 → dirtyAt (at (s .cache .lines) i) x ≡ false
+  OthersUndirty x =
+      (i : ℕ) → i ≢ j → at (s .cache .lines) i .valid ≡ true → at (s .cache .lines) i .frame ≡ x / 32 → dirtyAt (at (s .cache .lines) i) x ≡ false
 
   fits : j * 32 + 32 ≤ length (s .cache .store)
   fits = omega (arith, k .cache .shape .store-long)
@@ -73,5 +74,7 @@ module _ (n : ℕ) (s : Side) (k : SideIs n s) (pm : List ℕ) (h : History) (g 
       → Staged (halvesSent (s .backing) (at (s .cache .lines) j) (s .cache .store) (j * 32)) pm stage
   sent-staged stage q =
       case (l .valid)
-      (λ v. staged-sent n (s .backing) (k .backing) l (s .cache .store) (j * 32) (k .cache .store-bytes) (k .cache .lines j .inside v) fits pm stage (λ x e. line-byte x v e) q)
+      (λ v.
+      staged-sent n (s .backing) (k .backing) l (s .cache .store) (j * 32) (k .cache .store-bytes) (k .cache .lines j .inside v) fits pm stage
+      (λ x e. line-byte x v e) q)
       (λ v. subst (λ (b : Backing). Staged b pm stage) (sym (nothing-sent v)) q)

@@ -11,7 +11,7 @@ use lib.Seq.{getD-set-same, getD-set-other, getD-take, getD-drop, length-take-le
 use borrow.Author.Tests.{eqb-true, eqb-false, eq-eqb, ltb-true, ltb-false}
 use Rattle.values.specs.Addresses.{blockOf}
 use Rattle.values.specs.Empty.{emptySlot}
-use Rattle.values.specs.Tests.{bit}
+use Rattle.values.specs.Bits.{bit}
 use Rattle.values.specs.declared.PhysicalAddress.{PhysicalAddress}
 use Rattle.values.specs.declared.Slot.{Slot}
 use Rattle.values.specs.declared.Search.{Search}
@@ -20,12 +20,13 @@ use Rattle.values.proofs.Anys.{any-means}
 use Rattle.values.proofs.Cases.{case, clash, and-left, and-right, and-both, or-cases, or-none}
 use Rattle.words.specs.Words.{stored}
 use Rattle.words.proofs.Laws.{byte-before, byte-behind}
-use Rattle.buffer.specs.Buffer.{Backing, slotAt, oldestLeft, drained, behind, pushed, halfPushed, newestOf, maskOf, joined, newSlot, storedAt, buffered, masks, meets, holds}
+use Rattle.buffer.specs.Buffer.{Backing, slotAt, oldestLeft, drained, behind, pushed, halfPushed, newestOf, maskOf, joined, newSlot, storedAt}
+use Rattle.buffer.specs.Buffer.{buffered, masks, meets, holds}
 use Rattle.buffer.proofs.Joining.{newest-below}
 use Rattle.buffer.proofs.Below.{over, below, laid-slot, empty-masks, Behind, Good, drained-below, drained-memory}
 use Rattle.buffer.proofs.Lengths.{memory-behind, slot-oldest, used-oldest, slot-drained, slot-behind, slot-other}
 use Rattle.buffer.proofs.StoredBelow.{or-bit, mask-before, mask-in, mask-behind, laidOver, as-stored, newest-block, over-away, half-below, buffered-below}
-use Rattle.soundness.proofs.BackingKept.{BackingIs, oldest-kept}
+use Rattle.soundness_laws.proofs.BackingKept.{BackingIs, oldest-kept}
 use Rattle.terms.proofs.Invariant.{SettledAt}
 
 -- byte x is none of the w bytes from a on
@@ -149,7 +150,8 @@ module _ (n : ℕ) (b : Backing) (k : BackingIs n b) (pm : List ℕ) (x : ℕ) (
           in-entries = λ j t.
               case (eqb j u)
               (λ v.
-              let e : slotAt (behind b new .buffer) j ≡ new = ap (slotAt (behind b new .buffer)) (eqb-true j u v) ∙ slot-behind b new (omega (arith, k .shape .places)) in
+              let e : slotAt (behind b new .buffer) j ≡ new =
+              ap (slotAt (behind b new .buffer)) (eqb-true j u v) ∙ slot-behind b new (omega (arith, k .shape .places)) in
               ap (λ (r : Slot). getD (r .bytes) (x % 16) 0) e ∙ f (ap (λ (r : Slot). masks r x) (sym e) ∙ t))
               (λ v.
               let e : slotAt (behind b new .buffer) j ≡ slotAt (b .buffer) j = slot-other b new j (eqb-false j u v) in
@@ -174,7 +176,8 @@ module _ (n : ℕ) (b : Backing) (k : BackingIs n b) (block : ℕ) (bytes : List
   pub half-over : (x : ℕ) → below (halfPushed b block bytes) x ≡ cond (eqb (x / 16) block) (getD bytes (x % 16) 0) (below b x)
   half-over x = half-below (b .memory) (b .buffer .slots) (b .buffer .used) (k .shape .places) (k .shape .low) (rest n b k) (good n b k) block bytes x
 
-  pub settled-half : (pm : List ℕ) (x : ℕ) → (x / 16 ≡ block → getD bytes (x % 16) 0 ≡ getD pm x 0) → SettledAt b pm x → SettledAt (halfPushed b block bytes) pm x
+  pub settled-half : (pm : List ℕ) (x : ℕ) → (x / 16 ≡ block → getD bytes (x % 16) 0 ≡ getD pm x 0) → SettledAt b pm x
+      → SettledAt (halfPushed b block bytes) pm x
   unfolding halfPushed
   settled-half pm x h s =
       settled-pushed n b k pm x s (record { block = block; mask = 65535; bytes = bytes })
@@ -227,12 +230,14 @@ module _ (a w v : ℕ) (fits : a % 16 + w ≤ 16) (x : ℕ) where
         let q = and-right here (bit (bitOr (s .mask) (maskOf w (a % 16))) (x % 16)) t in
         let m = mask-outside o (eqb-true (x / 16) (s .block) p ∙ same) in
         and-both here (bit (s .mask) (x % 16)) p
-        (or-cases (bit (s .mask) (x % 16)) (bit (maskOf w (a % 16)) (x % 16)) (sym (or-bit (s .mask) (maskOf w (a % 16)) (x % 16)) ∙ q) (λ y. y) (λ y. clash y m))
+        (or-cases (bit (s .mask) (x % 16)) (bit (maskOf w (a % 16)) (x % 16)) (sym (or-bit (s .mask) (maskOf w (a % 16)) (x % 16)) ∙ q) (λ y. y)
+        (λ y. clash y m))
 
     joined-byte : masks (joined s w (a % 16) v) x ≡ true → getD (joined s w (a % 16) v .bytes) (x % 16) 0 ≡ getD (s .bytes) (x % 16) 0
     unfolding joined
     joined-byte t =
-        let e : x / 16 ≡ a / 16 = eqb-true (x / 16) (s .block) (and-left (eqb (x / 16) (s .block)) (bit (bitOr (s .mask) (maskOf w (a % 16))) (x % 16)) t) ∙ same in
+        let here = and-left (eqb (x / 16) (s .block)) (bit (bitOr (s .mask) (maskOf w (a % 16))) (x % 16)) t in
+        let e : x / 16 ≡ a / 16 = eqb-true (x / 16) (s .block) here ∙ same in
         outside-stored w (s .bytes) (a % 16) v (x % 16) (λ h l. o (omega arith) (omega arith))
 
 pub settled-buffered : (n : ℕ) (b : Backing) (k : BackingIs n b) (pm : List ℕ) (pa : PhysicalAddress) (w v x : ℕ) → pa .0 % 16 + w ≤ 16
@@ -254,7 +259,9 @@ settled-buffered n b k pm pa w v x fits o s = by (newestOf (b .buffer .slots) (b
           in-entries = λ j t.
               case (eqb j i)
               (λ u.
-              let q : getD (set l i new) j emptySlot ≡ new = ap (λ (y : ℕ). getD (set l i new) y emptySlot) (eqb-true j i u) ∙ getD-set-same l i new emptySlot (omega (arith, k .shape .places, k .shape .low)) in
+              let q : getD (set l i new) j emptySlot ≡ new =
+              ap (λ (y : ℕ). getD (set l i new) y emptySlot) (eqb-true j i u)
+              ∙ getD-set-same l i new emptySlot (omega (arith, k .shape .places, k .shape .low)) in
               let m : masks new x ≡ true = ap (λ (r : Slot). masks r x) (sym q) ∙ t in
               ap (λ (r : Slot). getD (r .bytes) (x % 16) 0) q ∙ joined-byte (pa .0) w v fits x old same o m
               ∙ s .in-entries i (joined-masks (pa .0) w v fits x old same o m))

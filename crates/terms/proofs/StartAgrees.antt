@@ -10,11 +10,12 @@ use Rattle.values.specs.declared.Line.{Line}
 use Rattle.values.proofs.Cases.{clash}
 use Rattle.words.specs.Words.{Bytes}
 use Rattle.tlb.specs.Tlb.{flushed}
-use Rattle.buffer.specs.Buffer.{Backing, emptyBuffer, masks}
+use Rattle.buffer.specs.Buffer.{Backing, backingFrom, emptyBuffer, masks}
 use Rattle.buffer.proofs.Below.{below, over-empties, empty-masks}
-use Rattle.sound.specs.Machine.{fresh}
-use Rattle.soundness.proofs.Parts.{same-at}
-use Rattle.step.specs.Start.{startRefusal, started}
+use Rattle.machine.specs.Machine.{fresh}
+use Rattle.soundness_laws.proofs.Elements.{same-at}
+use Rattle.step.specs.Meets.{startRefusal}
+use Rattle.step.specs.Start.{started}
 use Rattle.step.proofs.SoundKept.{start-sound}
 use Rattle.plain.specs.Plain.{plainStart}
 use Rattle.terms.specs.History.{Stage, noHistory}
@@ -23,7 +24,7 @@ use Rattle.terms.proofs.TlbAgreement.{tlb-flushed}
 
 module _ (memory store : List ℕ) where
   abbrev backing : Backing
-  backing = record { memory = memory; buffer = emptyBuffer }
+  backing = backingFrom memory emptyBuffer
 
   no-line : (i : ℕ) → at noLines i ≡ emptyLine
   no-line i = same-at {A = Line} 512 emptyLine i

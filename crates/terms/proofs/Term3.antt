@@ -5,7 +5,6 @@ use mathlib.Core.List.{List, [], _∷_}
 use lib.Seq.{ext-getD}
 use Rattle.values.specs.declared.Call.{Call}
 use Rattle.trace.specs.Fold.{answersOf, finalOf}
-use Rattle.sound.specs.Machine.{Machine, memoryOf}
 use Rattle.step.specs.Start.{started}
 use Rattle.step.specs.Call.{served}
 use Rattle.step.specs.Run.{answers, final}
@@ -16,6 +15,7 @@ use Rattle.terms.specs.Term3.{AllNumbers, Term3}
 use Rattle.terms.proofs.Invariant.{Agrees}
 use Rattle.terms.proofs.StartAgrees.{start-agrees}
 use Rattle.terms.proofs.CallsAlike.{call-agrees}
+use Rattle.machine.specs.Machine.{Machine, memoryOf}
 
 -- a list of calls that keeps the rules, from machines that agree
 pub list-agrees : (m : Machine) (p : Plain) (h : History) → Agrees m p h → (calls : List Call) → AllNumbers calls → Keeps p h calls
@@ -37,5 +37,7 @@ term3 memory store calls r =
     let a = start-agrees memory store (r .memory-bytes) (r .store-bytes) (r .served-start) in
     let l = list-agrees (started memory store .machine) (plainStart memory) noHistory a calls (r .numbers) (r .keeps) in (
       l .0,
-      λ s. settled-memory (final (started memory store .machine) calls) (plainFinal (plainStart memory) calls) (historyAfter (plainStart memory) noHistory calls) (l .1) s,
+      λ s.
+          settled-memory (final (started memory store .machine) calls) (plainFinal (plainStart memory) calls)
+          (historyAfter (plainStart memory) noHistory calls) (l .1) s,
     )

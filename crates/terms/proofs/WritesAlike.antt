@@ -1,7 +1,6 @@
 -- CP15 reads and writes: the registers, and the operations of registers 7 and 8.
 use Prim.Native.Nat.{ℕ, _/_}
 use native.Mathlib.Omega.{arith}
-use native.Mathlib.Nat.{add-zero}
 use mathlib.Core.Bool.{Bool, true, false, _&&_}
 use mathlib.Core.Path.{_≡_, refl, sym, _∙_, ap, subst}
 use lib.Dec.{eqb}
@@ -10,34 +9,30 @@ use Rattle.values.specs.Addresses.{virtualLine}
 use Rattle.values.specs.declared.VirtualAddress.{VirtualAddress}
 use Rattle.values.specs.declared.Registers.{Registers}
 use Rattle.values.specs.declared.Transfer.{Transfer}
+use Rattle.values.specs.declared.Answer.{Answer}
 use Rattle.values.specs.declared.Answer.the-variants as answer
 use Rattle.values.proofs.Cases.{case, and-left, and-right}
-use Rattle.registers.specs.Refusals.{isPair}
+use Rattle.registers.specs.Pairs.{isPair}
 use Rattle.registers.specs.Registers.{readOf, writtenOf}
-use Rattle.sound.specs.Machine.{Machine}
+use Rattle.machine.specs.Machine.{Machine}
 use Rattle.cp15.specs.Operations.{flushesDcache, flushesLine, cleansLine, drains, flushesTlb, dropsEntries, operated, read, write}
 use Rattle.plain.specs.Plain.{Plain, plainRead, plainWrite}
-use Rattle.terms.specs.History.{Stage, History, afterWrite, afterLineClean, afterBufferDrain, afterWholeTlbFlush, afterWholeFlush, afterBaseWrite, afterClean, afterDrain, never, stored, cleaned, drained, flushed}
+use Rattle.terms.specs.History.{Stage, never, stored, cleaned, drained, flushed, History, afterClean, afterDrain}
+use Rattle.terms.specs.History.{afterWrite, afterLineClean, afterBufferDrain, afterWholeTlbFlush, afterWholeFlush, afterBaseWrite}
 use Rattle.terms.specs.Rules.{isFlushed, R3}
 use Rattle.terms.proofs.Invariant.{SideAgrees, TlbAgrees}
 use Rattle.terms.proofs.TlbAgreement.{tlb-flushed, tlb-stale, tlb-dropped, tlb-history}
 use Rattle.terms.proofs.Cleans.{drained-side, cleaned-side}
 use Rattle.terms.proofs.Flushes.{all-flushed-side, line-flushed-side, tlb-flushed-side}
-use Rattle.terms.proofs.Alike.{Shared, Alike}
+use Rattle.terms.proofs.Alike.{Shared, Alike, still-alike}
 
 -- ---- a read
 
 pub read-step : (n : ℕ) (m : Machine) (p : Plain) (h : History) → Shared n m p h → (t : Transfer) → Alike n (read m t) (plainRead p t) h
 unfolding read plainRead
 read-step n m p h k t =
-    record {
-      same-answer = ap (λ (r : Registers). answer.Value (readOf r (t .register))) (k .registers);
-      registers = k .registers;
-      calls = k .calls;
-      long = k .long;
-      side = k .side;
-      tlb = k .tlb;
-    }
+    let value : Registers → Answer = λ r. answer.Value (readOf r (t .register)) in
+    still-alike n m p h k (value (m .cp15 .registers)) (value (p .registers)) (ap value (k .registers))
 
 -- ---- which operation
 
@@ -145,7 +140,7 @@ module _ (n : ℕ) (m : Machine) (p : Plain) (h : History) (k : Shared n m p h) 
       (λ c.
       rw (e, a, b, c)
       (record {
-        calls = add-zero (m .counts .calls);
+        calls = refl;
         side = cleaned-side n (m .side) (k .side-is) (p .memory) h (k .side) va;
         tlb =
             kept-tlb (afterLineClean h (virtualLine va)) refl (λ w q. clean-flushed (eqb (h .through (w / 8)) (virtualLine va)) (h .wordStage w) q);
@@ -208,5 +203,6 @@ module _ (n : ℕ) (m : Machine) (p : Plain) (h : History) (k : Shared n m p h) 
         long = k .long;
         side = o .side;
         tlb =
-            subst (λ (x : ℕ). TlbAgrees (operated m t va .entries) x (p .memory) (afterWrite h t v)) (sym (written-base (p .registers) (t .register) v e)) (o .tlb);
+            subst (λ (x : ℕ). TlbAgrees (operated m t va .entries) x (p .memory) (afterWrite h t v))
+            (sym (written-base (p .registers) (t .register) v e)) (o .tlb);
       })

@@ -6,26 +6,27 @@ use mathlib.Core.Path.{_≡_}
 use mathlib.Core.List.{List, [], _∷_, _++_, map}
 use lib.Dec.{eqb}
 use lib.ListN.{length, getD}
-use Rattle.values.specs.Tests.{any}
+use Rattle.values.specs.Lists.{any}
+use Rattle.values.specs.Counts.{countLimit}
 use Rattle.values.specs.declared.Call.{Call}
 use Rattle.values.specs.declared.Call.the-variants.{Write}
 use Rattle.words.specs.Words.{Bytes}
 use Rattle.trace.specs.Fold.{callsIn}
-use Rattle.sound.specs.Machine.{memoryOf}
-use Rattle.step.specs.Start.{startRefusal, started}
+use Rattle.step.specs.Meets.{startRefusal}
+use Rattle.step.specs.Start.{started}
 use Rattle.step.specs.Call.{Is32}
-use Rattle.step.specs.Run.{answers, final}
-use Rattle.step.specs.Batch.{run}
+use Rattle.step.specs.Run.{answers, final, run}
 use Rattle.sa110.specs.State.{machineIn, ranOf, startedOf}
 use Rattle.sa110.specs.declared.Started.{Started}
 use Rattle.sa110.specs.declared.Ran as library
 use Rattle.plain.specs.Plain.{plainStart, plainFinal}
 use Rattle.plain.specs.Run.{plainRun}
-use Rattle.plain.specs.Code.{leftOf}
+use Rattle.plain.specs.Code.{plainLeft}
 use Rattle.plain.specs.declared.Ran as plain
 use Rattle.terms.specs.History.{History, noHistory, historyAfter}
 use Rattle.terms.specs.Rules.{isStored, Keeps, Settled}
 use Rattle.terms.specs.Term3.{Run}
+use Rattle.machine.specs.Machine.{memoryOf}
 
 -- ---- 1. A run over lent lists
 
@@ -68,7 +69,7 @@ pub record CodeRun (memory store list answers : List ℕ) (s : Started) (memory�
 
 -- `plain::run` returned `p`, and left the lent memory and list of answers as `memory₁` and `answers₁`
 abbrev pub PlainCodeRun : List ℕ → List ℕ → List ℕ → List ℕ → List ℕ → plain.Ran → Type 0
-PlainCodeRun memory list answers memory₁ answers₁ p = leftOf memory₁ answers₁ p ≡ plainRun memory list answers
+PlainCodeRun memory list answers memory₁ answers₁ p = plainLeft memory₁ answers₁ p ≡ plainRun memory list answers
 
 -- After a served start, if the calls of the list keep the rules, `sa110::run` and `plain::run` write the same answers and return the same number of
 -- calls made; and they leave the same memory where every line stored to has been cleaned and the buffer drained after that.
@@ -121,10 +122,10 @@ StoredThrough vs h = (l : ℕ) → isStored (h .lineStage l) ≡ true → any (�
 pub record BeforeCleaning (memory store : List ℕ) (calls : List Call) (vs : List ℕ) : Type 0 where
   pub first : Run memory store calls
   -- virtual lines of addresses of 32 bits
-  pub lines : (i : ℕ) → i < length vs → getD vs i 0 < 134217728
+  pub lines : (i : ℕ) → i < length vs → getD vs i 0 < 0x8000000
   pub stored-through : StoredThrough vs (historyAfter (plainStart memory) noHistory calls)
   -- none of the cleans, nor the drain, meets refusal 5
-  pub count : plainFinal (plainStart memory) calls .calls + length vs + 1 ≤ 4294967295
+  pub count : plainFinal (plainStart memory) calls .calls + length vs + 1 ≤ countLimit
 
 -- After a list of calls that keeps the rules, clean every virtual line through which a line had its last store and was not cleaned since, and then
 -- drain: these calls keep the rules too, and memory is the plain machine's memory after the list, byte for byte.

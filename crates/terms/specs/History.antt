@@ -4,19 +4,21 @@ use Prim.Native.Nat.{ℕ, _/_}
 use mathlib.Core.Bool.{Bool, true, false, cond, _&&_, _||_}
 use mathlib.Core.List.{List, [], _∷_}
 use lib.Dec.{eqb}
-use lib.ListN.{length}
 use Rattle.values.specs.Addresses.{virtualLine, physicalLine, wordOf}
 use Rattle.values.specs.declared.VirtualAddress.{VirtualAddress}
+use Rattle.values.specs.declared.Kind.{Kind}
+use Rattle.values.specs.declared.Kind.the-variants.{Load, SignedLoad, Store}
 use Rattle.values.specs.declared.Transfer.{Transfer}
 use Rattle.values.specs.declared.Call.{Call}
-use Rattle.values.specs.declared.Call.the-variants.{Load, SignedLoad, Store, Read, Write}
+use Rattle.values.specs.declared.Call.the-variants.{Read, Write}
+use Rattle.values.specs.declared.Call.the-variants as calls
+use Rattle.bus.specs.Physical.{Physical, aborts}
 use Rattle.translation.specs.Alignment.{cleared}
-use Rattle.translation.specs.Faults.{inside}
 use Rattle.translation.specs.declared.Place.{Place}
 use Rattle.translation.specs.declared.Checked.{Checked}
 use Rattle.translation.specs.declared.Checked.the-variants.{Passed, Denied}
 use Rattle.cp15.specs.Operations.{flushesDcache, cleansLine, drains, flushesTlb}
-use Rattle.plain.specs.Plain.{Plain, plainReach, plainRefusal, plainly}
+use Rattle.plain.specs.Plain.{Plain, plainPhysical, plainReach, plainRefusal, plainly}
 
 -- How far a line or a word has come since its last store: never stored to, stored, then cleaned, then drained, then the TLB flushed.
 pub data Stage : Type 0 where
@@ -96,10 +98,16 @@ withStore h va l =
       baseStale = h .baseStale;
     }
 
--- a store into a memory of n bytes, "dropped ones left out"
-unfoldable pub afterStore : History → ℕ → VirtualAddress → Checked → History
-afterStore h n va (Denied s d) = h
-afterStore h n va (Passed l) = cond (inside n (l .address)) (withStore h va l) h
+-- a store, "dropped ones left out"
+unfoldable pub afterStore : History → Physical → VirtualAddress → Checked → History
+afterStore h memory va (Denied s d) = h
+afterStore h memory va (Passed l) = cond (aborts memory (l .address)) h (withStore h va l)
+
+-- what an access of a kind stores
+abbrev pub afterKind : Kind → History → Physical → VirtualAddress → Checked → History
+afterKind Load h memory va c = h
+afterKind SignedLoad h memory va c = h
+afterKind (Store v) h memory va c = afterStore h memory va c
 
 abbrev pub afterLineClean : History → ℕ → History
 afterLineClean h v =
@@ -159,10 +167,8 @@ afterWrite h t v =
 
 -- a served call
 abbrev pub afterServed : Plain → History → Call → History
-afterServed p h (Load a) = afterReach h (cleared a) (plainReach p a false)
-afterServed p h (SignedLoad a) = afterReach h (cleared a) (plainReach p a false)
-afterServed p h (Store a v) =
-    afterStore (afterReach h (cleared a) (plainReach p a true)) (length (p .memory)) (cleared a) (plainReach p a true)
+afterServed p h (calls.Access a) =
+    afterKind (a .kind) (afterReach h (cleared a) (plainReach p a)) (plainPhysical p) (cleared a) (plainReach p a)
 afterServed p h (Read t) = h
 afterServed p h (Write t v) = afterWrite h t v
 

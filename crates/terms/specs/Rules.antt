@@ -1,19 +1,20 @@
 -- R2 to R6 and the end, at one call and over a list of calls. (R1 is the threading of the machine from call to call, in a run.)
-use Prim.Native.Nat.{ℕ, _+_, _*_, _/_, _<_, _≤_}
+use Prim.Native.Nat.{ℕ, _+_, _*_, _/_, _<_}
 use mathlib.Core.Bool.{Bool, true, false, not, _&&_}
 use mathlib.Core.Path.{_≡_}
 use mathlib.Core.List.{List, [], _∷_}
 use lib.Dec.{eqb}
-use lib.ListN.{length}
-use Rattle.values.specs.Tests.{all}
+use Rattle.values.specs.Lists.{all}
 use Rattle.values.specs.Addresses.{virtualLine, physicalLine}
 use Rattle.values.specs.Control.{mmu}
 use Rattle.values.specs.declared.VirtualAddress.{VirtualAddress}
 use Rattle.values.specs.declared.Access.{Access}
 use Rattle.values.specs.declared.Transfer.{Transfer}
 use Rattle.values.specs.declared.Call.{Call}
-use Rattle.values.specs.declared.Call.the-variants.{Load, SignedLoad, Store, Read, Write}
+use Rattle.values.specs.declared.Call.the-variants.{Read, Write}
+use Rattle.values.specs.declared.Call.the-variants as calls
 use Rattle.words.specs.Words.{valueAt}
+use Rattle.bus.specs.Physical.{Physical, aborts}
 use Rattle.walk.specs.Walk.{walk, firstAddress, secondAddress}
 use Rattle.walk.specs.Reads.{wordsRead}
 use Rattle.walk.specs.declared.Mapping.{Mapping}
@@ -22,7 +23,7 @@ use Rattle.translation.specs.Alignment.{alignmentFaults, cleared}
 use Rattle.translation.specs.declared.Checked.{Checked}
 use Rattle.translation.specs.declared.Checked.the-variants.{Passed, Denied}
 use Rattle.cp15.specs.Operations.{flushesDcache, flushesLine}
-use Rattle.plain.specs.Plain.{Plain, plainReach, plainRefusal, plainly}
+use Rattle.plain.specs.Plain.{Plain, plainPhysical, plainReach, plainRefusal, plainly}
 use Rattle.terms.specs.History.{Stage, never, stored, cleaned, drained, flushed, History, after}
 
 -- ---- stages as tests
@@ -77,7 +78,7 @@ walks p a = mmu (p .registers) && not (alignmentFaults (p .registers) a)
 
 -- "a word read by the plain walk of an access has, after its last store, had its line cleaned, then a drain, then a whole TLB flush"
 abbrev pub R4 : Plain → History → VirtualAddress → Type 0
-R4 p h va = all (λ (w : ℕ). isFlushed (h .wordStage w)) (wordsRead (p .memory) (p .registers .base) va) ≡ true
+R4 p h va = all (λ (w : ℕ). isFlushed (h .wordStage w)) (wordsRead (plainPhysical p) (p .registers .base) va) ≡ true
 
 -- "after a table base write comes a whole TLB flush before the next translated access"
 abbrev pub R5 : History → Type 0
@@ -93,28 +94,26 @@ isLarge (Failed s d) = false
 abbrev pub levelTwo : List ℕ → ℕ → VirtualAddress → ℕ
 levelTwo memory base va = secondAddress (valueAt 4 memory (firstAddress base va .0)) va .0
 
--- the sixteen words of four bytes from the address g on
-abbrev pub Group : List ℕ → ℕ → ℕ → Type 0
-Group memory g word = (g + 64 ≤ length memory) × ((k : ℕ) → k < 16 → valueAt 4 memory (g + 4 * k) ≡ word)
+-- the sixteen words of four bytes from the address g on answer, and are this word
+abbrev pub Group : Physical → ℕ → ℕ → Type 0
+Group m g word = (k : ℕ) → k < 16 → (aborts m (record { 0 = g + 4 * k }) ≡ false) × (valueAt 4 (m .bytes) (g + 4 * k) ≡ word)
 
 abbrev pub R6 : Plain → VirtualAddress → Type 0
 R6 p va =
-    isLarge (walk (p .memory) (p .registers .base) va) ≡ true
-    → Group (p .memory) (levelTwo (p .memory) (p .registers .base) va / 64 * 64)
+    isLarge (walk (plainPhysical p) (p .registers .base) va) ≡ true
+    → Group (plainPhysical p) (levelTwo (p .memory) (p .registers .base) va / 64 * 64)
     (valueAt 4 (p .memory) (levelTwo (p .memory) (p .registers .base) va))
 
 -- ---- a call
 
-pub record AccessAllowed (p : Plain) (h : History) (a : Access) (store : Bool) : Type 0 where
-  pub r2 : R2 h (cleared a) (plainReach p a store)
+pub record AccessAllowed (p : Plain) (h : History) (a : Access) : Type 0 where
+  pub r2 : R2 h (cleared a) (plainReach p a)
   pub r4 : walks p a ≡ true → R4 p h (cleared a)
   pub r5 : walks p a ≡ true → R5 h
   pub r6 : walks p a ≡ true → R6 p (cleared a)
 
 abbrev pub ServedAllowed : Plain → History → Call → Type 0
-ServedAllowed p h (Load a) = AccessAllowed p h a false
-ServedAllowed p h (SignedLoad a) = AccessAllowed p h a false
-ServedAllowed p h (Store a v) = AccessAllowed p h a true
+ServedAllowed p h (calls.Access a) = AccessAllowed p h a
 ServedAllowed p h (Read t) = Unit {0}
 ServedAllowed p h (Write t v) = R3 h t v
 

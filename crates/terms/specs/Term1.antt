@@ -7,10 +7,12 @@ use lib.ListN.{length}
 use Rattle.values.specs.declared.Call.{Call}
 use Rattle.values.specs.declared.Answer.{Answer}
 use Rattle.values.specs.declared.Answer.the-variants as answer
-use Rattle.sound.specs.Machine.{Machine, fresh}
-use Rattle.step.specs.Refusals.{refusal}
-use Rattle.step.specs.Start.{startRefusal, started}
+use Rattle.step.specs.Meets.{startRefusal, refusal}
+use Rattle.step.specs.Start.{startedFrom, started}
+use Rattle.terms.specs.Words.{RefusedWords}
 use Rattle.step.specs.Call.{served}
+use Rattle.machine.specs.Machine.{Machine, fresh}
+use Rattle.machine.specs.Machine.{steppedFrom}
 
 -- an answer that is a value or a fault
 abbrev pub ValueOrFault : Answer → Type 0
@@ -19,15 +21,18 @@ ValueOrFault (answer.Signed z) = Unit {0}
 ValueOrFault (answer.Fault f) = Unit {0}
 ValueOrFault (answer.Refused n) = ⊥
 
+-- `refusal` is the number of the first row met, of the rows that the call meets
 pub record Term1At (m : Machine) (c : Call) : Type 0 where
-  pub refused : (refusal m c ≡ 0 → ⊥) → served m c ≡ record { machine = m; answer = answer.Refused (refusal m c) }
+  pub refused : (refusal m c ≡ 0 → ⊥) → served m c ≡ (steppedFrom m (answer.Refused (refusal m c)))
   pub answered : refusal m c ≡ 0 → ValueOrFault (served m c .answer)
 
 -- the start: "The start meets 1 and 2"; it "writes to no lent bytes", and a refused one gives "a state all zeros"
 pub record Term1Start (memory store : List ℕ) : Type 0 where
-  pub refused : (startRefusal memory store ≡ 0 → ⊥) → started memory store ≡ record { machine = fresh 0 memory store; refusal = startRefusal memory store }
-  pub answered : startRefusal memory store ≡ 0 → started memory store ≡ record { machine = fresh (length memory) memory store; refusal = 0 }
+  pub refused : (startRefusal memory store ≡ 0 → ⊥) → started memory store ≡ startedFrom (fresh 0 memory store) (startRefusal memory store)
+  pub answered : startRefusal memory store ≡ 0 → started memory store ≡ startedFrom (fresh (length memory) memory store) 0
 
 pub record Term1 : Type 0 where
   pub start : (memory store : List ℕ) → Term1Start memory store
   pub call : (m : Machine) (c : Call) → Term1At m c
+  -- the same of the code's words and bytes
+  pub words : RefusedWords

@@ -5,7 +5,8 @@ use mathlib.Core.Bool.{Bool, true, false, cond, not, _&&_, _||_}
 use mathlib.Core.Path.{_≡_}
 use mathlib.Core.List.{List, [], _∷_}
 use lib.Dec.{eqb}
-use lib.ListN.{length}
+use Rattle.values.specs.Kinds.{isStore}
+use Rattle.values.specs.Rows.{Row, firstMet}
 use Rattle.values.specs.Control.{mmu, system, rom}
 use Rattle.values.specs.Empty.{emptyEntry}
 use Rattle.values.specs.declared.VirtualAddress.{VirtualAddress}
@@ -14,37 +15,32 @@ use Rattle.values.specs.declared.Entry.{Entry}
 use Rattle.values.specs.declared.Access.{Access}
 use Rattle.values.specs.declared.Fault.{Fault}
 use Rattle.values.specs.declared.Status.{Status}
-use Rattle.values.specs.declared.Status.the-variants.{Alignment, WalkFirst, WalkSecond, TranslationSection, TranslationPage, DomainSection, DomainPage, PermissionSection, PermissionPage, FillSection, FillPage, OtherSection, OtherPage}
+use Rattle.values.specs.declared.Status.the-variants.{Alignment, WalkFirst, WalkSecond, TranslationSection, TranslationPage, DomainSection, DomainPage}
+use Rattle.values.specs.declared.Status.the-variants.{PermissionSection, PermissionPage, FillSection, FillPage, OtherSection, OtherPage}
 use Rattle.values.specs.declared.Search.{Search}
 use Rattle.values.specs.declared.Search.the-variants.{At, Nothing}
 use Rattle.values.specs.declared.Call.{Call}
-use Rattle.values.specs.declared.Call.the-variants.{Load, SignedLoad, Store, Read, Write}
+use Rattle.values.specs.declared.Call.the-variants.{Read, Write}
+use Rattle.values.specs.declared.Call.the-variants as calls
 use Rattle.values.specs.declared.Answer.{Answer}
 use Rattle.values.specs.declared.Answer.the-variants as answer
 use Rattle.rights.specs.Rights.{rights, domainValue}
-use Rattle.walk.specs.Walk.{descriptorAt, firstAddress, secondAddress, domainOf}
-use Rattle.walk.specs.declared.Descriptor.{Descriptor}
-use Rattle.walk.specs.declared.Descriptor.the-variants.{Word, Outside}
+use Rattle.walk.specs.Walk.{firstAddress, secondAddress, domainOf}
 use Rattle.tlb.specs.Tlb.{lookup, apOf}
 use Rattle.cache.specs.Dcache.{find}
-use Rattle.sound.specs.Machine.{Machine, memoryOf}
 use Rattle.translation.specs.Alignment.{alignmentFaults, cleared}
 use Rattle.translation.specs.Translation.{translation, flatPlace, placeOf}
-use Rattle.translation.specs.Faults.{inside, fills, buffers}
+use Rattle.bus.specs.Physical.{Physical, aborts}
+use Rattle.translation.specs.Faults.{fills, buffers}
 use Rattle.translation.specs.declared.Translation.{Translation}
 use Rattle.translation.specs.declared.Translation.the-variants.{Flat, Held, Walked, Failed}
 use Rattle.translation.specs.declared.Place.{Place}
-use Rattle.step.specs.Refusals.{refusal}
+use Rattle.step.specs.Meets.{refusal}
 use Rattle.step.specs.Call.{served}
-
--- a row: its condition, and the fault's status and domain
-pub record Row : Type 0 where
-  pub condition : Bool
-  pub status : Status
-  pub domain : ℕ
-
-abbrev pub row : Bool → Status → ℕ → Row
-row condition status domain = record { condition = condition; status = status; domain = domain }
+use Rattle.bus.specs.Reader.{descriptorAt}
+use Rattle.bus.specs.declared.Descriptor.{Descriptor}
+use Rattle.bus.specs.declared.Descriptor.the-variants.{Word, Outside}
+use Rattle.machine.specs.Machine.{Machine, physicalOf}
 
 -- ---- the walk's words
 
@@ -80,12 +76,31 @@ placeBy va (Failed s d) = flatPlace va
 
 -- ---- the table
 
-module _ (m : Machine) (a : Access) (store : Bool) where
+-- a fault, or none
+pub data Faulting : Type 0 where
+  faults : Fault → Faulting
+  passes : Faulting
+
+abbrev pub faultIn : Answer → Faulting
+faultIn (answer.Value v) = passes
+faultIn (answer.Signed z) = passes
+faultIn (answer.Fault f) = faults f
+faultIn (answer.Refused n) = passes
+
+module _ (m : Machine) (a : Access) where
   abbrev regs : Registers
   regs = m .cp15 .registers
 
-  abbrev memory : List ℕ
-  memory = memoryOf m
+  -- a row: its condition, and the fault's status and domain
+  abbrev row : Bool → Status → ℕ → Row Faulting
+  row condition status domain =
+      record { met = condition; gives = faults (record { status = status; domain = domain; address = a .address }) }
+
+  abbrev memory : Physical
+  memory = physicalOf m
+
+  abbrev store : Bool
+  store = isStore (a .kind)
 
   abbrev mapping : Translation
   mapping = translation (m .entries) regs memory (cleared a)
@@ -108,9 +123,9 @@ module _ (m : Machine) (a : Access) (store : Bool) where
   abbrev place : Place
   place = placeBy (cleared a) mapping
 
-  -- a miss outside memory
+  -- a miss whose word aborts
   abbrev lost : Bool
-  lost = isNothing (find (m .side .cache .lines) (cleared a)) && not (inside (length memory) (place .address))
+  lost = isNothing (find (m .side .cache .lines) (cleared a)) && aborts memory (place .address)
 
   -- "on line fill": a load that fills; otherwise a load that does not, or a store that is not buffered
   abbrev onFill : Bool
@@ -121,7 +136,7 @@ module _ (m : Machine) (a : Access) (store : Bool) where
 
   -- "Status, in order: alignment 1; walk outside memory 12 (level 1), 14 (level 2); translation 5, 7; domain 9, 11; permission 13, 15;
   -- outside memory on line fill 4, 6, otherwise 8, 10."
-  unfoldable pub rows : List Row
+  unfoldable pub rows : List (Row Faulting)
   rows =
       row (alignmentFaults regs a) Alignment 0
       ∷ row (walked && isOutside one) WalkFirst 0
@@ -140,27 +155,9 @@ module _ (m : Machine) (a : Access) (store : Bool) where
 
 -- ---- the statement
 
--- the fault of an answer, and of the first row whose condition holds, if there is one
-pub data Faulting : Type 0 where
-  faults : Fault → Faulting
-  passes : Faulting
-
-abbrev pub faultIn : Answer → Faulting
-faultIn (answer.Value v) = passes
-faultIn (answer.Signed z) = passes
-faultIn (answer.Fault f) = faults f
-faultIn (answer.Refused n) = passes
-
-unfoldable pub firstRow : VirtualAddress → List Row → Faulting
-firstRow address [] = passes
-firstRow address (r ∷ rs) =
-    cond (r .condition) (faults (record { status = r .status; domain = r .domain; address = address })) (firstRow address rs)
-
 -- an access's fault by the table
 abbrev pub tableFault : Machine → Call → Faulting
-tableFault m (Load a) = firstRow (a .address) (rows m a false)
-tableFault m (SignedLoad a) = firstRow (a .address) (rows m a false)
-tableFault m (Store a v) = firstRow (a .address) (rows m a true)
+tableFault m (calls.Access a) = firstMet passes (rows m a)
 tableFault m (Read t) = passes
 tableFault m (Write t v) = passes
 

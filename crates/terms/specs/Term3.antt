@@ -5,13 +5,14 @@ use mathlib.Core.Path.{_≡_}
 use mathlib.Core.List.{List, [], _∷_}
 use Rattle.values.specs.declared.Call.{Call}
 use Rattle.words.specs.Words.{Bytes}
-use Rattle.sound.specs.Machine.{memoryOf}
-use Rattle.step.specs.Start.{startRefusal, started}
+use Rattle.step.specs.Meets.{startRefusal}
+use Rattle.step.specs.Start.{started}
 use Rattle.step.specs.Call.{Numbers}
 use Rattle.step.specs.Run.{answers, final}
 use Rattle.plain.specs.Plain.{plainStart, plainAnswers, plainFinal}
 use Rattle.terms.specs.History.{noHistory, historyAfter}
 use Rattle.terms.specs.Rules.{Keeps, Settled}
+use Rattle.machine.specs.Machine.{memoryOf}
 
 -- "32 bits each": every call's address, and the value that it stores or writes
 unfoldable pub AllNumbers : List Call → Type 0

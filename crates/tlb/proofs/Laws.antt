@@ -7,7 +7,7 @@ use mathlib.Core.List.{List}
 use lib.Dec.{eqb}
 use lib.ListN.{length, length-map, getD, set, drop, replicate}
 use borrow.Author.Tests.{ne-eqb}
-use Rattle.values.specs.Tests.{firstFrom}
+use Rattle.values.specs.Lists.{firstFrom}
 use Rattle.values.specs.Empty.{emptyEntry}
 use Rattle.values.specs.declared.VirtualAddress.{VirtualAddress}
 use Rattle.values.specs.declared.Entry.{Entry}
@@ -28,27 +28,27 @@ module _ (va : VirtualAddress) (w : ℕ) where
   covers-invalid h = let e : w / 1 % 2 ≡ 0 = omega arith in rw e
 
   module _ (h : w % 2 ≡ 0 → ⊥) where
-    pub covers-section : w / 8 % 32 ≡ 0 → covers va (entryOf w) ≡ eqb (va .0 / 1048576 * 1048576) (w / 17592186044416 * 4096)
+    pub covers-section : w / 8 % 32 ≡ 0 → covers va (entryOf w) ≡ eqb (va .0 / 0x100000 * 0x100000) (w / 0x100000000000 * 4096)
     unfolding covers entryOf
     covers-section s = let e : w / 1 % 2 ≡ 1 = omega arith in rw (e, s)
 
-    pub covers-large : w / 8 % 32 ≡ 1 → covers va (entryOf w) ≡ eqb (va .0 / 65536 * 65536) (w / 17592186044416 * 4096)
+    pub covers-large : w / 8 % 32 ≡ 1 → covers va (entryOf w) ≡ eqb (va .0 / 0x10000 * 0x10000) (w / 0x100000000000 * 4096)
     unfolding covers entryOf
     covers-large s = let e : w / 1 % 2 ≡ 1 = omega arith in rw (e, s)
 
     pub covers-small : (w / 8 % 32 ≡ 0 → ⊥) → (w / 8 % 32 ≡ 1 → ⊥)
-        → covers va (entryOf w) ≡ eqb (va .0 / 4096 * 4096) (w / 17592186044416 * 4096)
+        → covers va (entryOf w) ≡ eqb (va .0 / 4096 * 4096) (w / 0x100000000000 * 4096)
     unfolding covers entryOf
     covers-small s t = let e : w / 1 % 2 ≡ 1 = omega arith in rw (e, ne-eqb (w / 8 % 32) 0 s, ne-eqb (w / 8 % 32) 1 t)
 
 -- ---- translation and permission, by the entry's size
 
 module _ (e : Entry) (va : VirtualAddress) where
-  pub translated-section : e .size ≡ 0 → translated e va ≡ record { 0 = e .pbase + va .0 % 1048576 }
+  pub translated-section : e .size ≡ 0 → translated e va ≡ record { 0 = e .pbase + va .0 % 0x100000 }
   unfolding translated
   translated-section s = rw s
 
-  pub translated-large : e .size ≡ 1 → translated e va ≡ record { 0 = e .pbase + va .0 % 65536 }
+  pub translated-large : e .size ≡ 1 → translated e va ≡ record { 0 = e .pbase + va .0 % 0x10000 }
   unfolding translated
   translated-large s = rw s
 

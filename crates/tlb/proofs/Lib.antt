@@ -3,3 +3,4 @@ pub mod Laws
 pub mod Covered
 pub mod Places
 pub mod Keyed
+pub mod Words

@@ -6,7 +6,7 @@ use mathlib.Core.Path.{_≡_, refl, _∙_, ap}
 use mathlib.Core.List.{List}
 use lib.Dec.{eqb}
 use lib.ListN.{getD}
-use Rattle.values.specs.Tests.{number}
+use Rattle.values.specs.Bits.{number}
 use Rattle.values.specs.Empty.{emptyEntry}
 use Rattle.values.specs.declared.Entry.{Entry}
 use Rattle.values.proofs.Cases.{number-bit, number-low}
@@ -27,24 +27,24 @@ thirty-two a x h = (omega arith, omega arith)
 byte : (a x : ℕ) → a < 256 → ((a + 256 * x) % 256 ≡ a) × ((a + 256 * x) / 256 ≡ x)
 byte a x h = (omega arith, omega arith)
 
-page : (a x : ℕ) → a < 1048576 → ((a + 1048576 * x) % 1048576 ≡ a) × ((a + 1048576 * x) / 1048576 ≡ x)
+page : (a x : ℕ) → a < 0x100000 → ((a + 0x100000 * x) % 0x100000 ≡ a) × ((a + 0x100000 * x) / 0x100000 ≡ x)
 page a x h = (omega arith, omega arith)
 
 -- a word's fields, by the places of their lowest bits
-module _ (v c b s d p f g : ℕ) (hv : v < 2) (hc : c < 2) (hb : b < 2) (hs : s < 32) (hd : d < 256) (hp : p < 256) (hf : f < 1048576) where
+module _ (v c b s d p f g : ℕ) (hv : v < 2) (hc : c < 2) (hb : b < 2) (hs : s < 32) (hd : d < 256) (hp : p < 256) (hf : f < 0x100000) where
   record Fields (w : ℕ) : Type 0 where
     is-v : w / 1 % 2 ≡ v
     is-c : w / 2 % 2 ≡ c
     is-b : w / 4 % 2 ≡ b
     is-s : w / 8 % 32 ≡ s
     is-d : w / 256 % 256 ≡ d
-    is-p : w / 65536 % 256 ≡ p
-    is-f : w / 16777216 % 1048576 ≡ f
-    is-g : w / 17592186044416 ≡ g
+    is-p : w / 0x10000 % 256 ≡ p
+    is-f : w / 0x1000000 % 0x100000 ≡ f
+    is-g : w / 0x100000000000 ≡ g
 
-  fields : Fields (v + 2 * (c + 2 * (b + 2 * (s + 32 * (d + 256 * (p + 256 * (f + 1048576 * g)))))))
+  fields : Fields (v + 2 * (c + 2 * (b + 2 * (s + 32 * (d + 256 * (p + 256 * (f + 0x100000 * g)))))))
   fields =
-      let x6 = f + 1048576 * g in
+      let x6 = f + 0x100000 * g in
       let x5 = p + 256 * x6 in
       let x4 = d + 256 * x5 in
       let x3 = s + 32 * x4 in
@@ -54,15 +54,15 @@ module _ (v c b s d p f g : ℕ) (hv : v < 2) (hc : c < 2) (hb : b < 2) (hs : s 
     where
       rest : (w x1 x2 x3 x4 x5 x6 : ℕ) → (w % 2 ≡ v) × (w / 2 ≡ x1) → (x1 % 2 ≡ c) × (x1 / 2 ≡ x2) → (x2 % 2 ≡ b) × (x2 / 2 ≡ x3)
           → (x3 % 32 ≡ s) × (x3 / 32 ≡ x4) → (x4 % 256 ≡ d) × (x4 / 256 ≡ x5) → (x5 % 256 ≡ p) × (x5 / 256 ≡ x6)
-          → (x6 % 1048576 ≡ f) × (x6 / 1048576 ≡ g) → Fields w
+          → (x6 % 0x100000 ≡ f) × (x6 / 0x100000 ≡ g) → Fields w
       rest w x1 x2 x3 x4 x5 x6 e1 e2 e3 e4 e5 e6 e7 =
           let d1 : w / 2 ≡ x1 = e1 .1 in
           let d2 : w / 4 ≡ x2 = omega (arith, d1, e2 .1) in
           let d3 : w / 8 ≡ x3 = omega (arith, d2, e3 .1) in
           let d4 : w / 256 ≡ x4 = omega (arith, d3, e4 .1) in
-          let d5 : w / 65536 ≡ x5 = omega (arith, d4, e5 .1) in
-          let d6 : w / 16777216 ≡ x6 = omega (arith, d5, e6 .1) in
-          let d7 : w / 17592186044416 ≡ g = omega (arith, d6, e7 .1) in
+          let d5 : w / 0x10000 ≡ x5 = omega (arith, d4, e5 .1) in
+          let d6 : w / 0x1000000 ≡ x6 = omega (arith, d5, e6 .1) in
+          let d7 : w / 0x100000000000 ≡ g = omega (arith, d6, e7 .1) in
           record {
             is-v = omega (arith, e1 .0);
             is-c = rw d1 (e2 .0);
@@ -82,12 +82,12 @@ entry-word e r =
     let c = number (e .cacheable) in
     let b = number (e .bufferable) in
     let fs = fields v c b (e .size) (e .domain) (e .aps) (e .pbase / 4096) (e .vbase / 4096) (number-low (e .valid)) (number-low (e .cacheable)) (number-low (e .bufferable)) (omega (arith, r .size)) (omega (arith, r .domain)) (r .aps) (omega (arith, r .pbase-low)) in
-    let w = v + 2 * (c + 2 * (b + 2 * (e .size + 32 * (e .domain + 256 * (e .aps + 256 * (e .pbase / 4096 + 1048576 * (e .vbase / 4096))))))) in
+    let w = v + 2 * (c + 2 * (b + 2 * (e .size + 32 * (e .domain + 256 * (e .aps + 256 * (e .pbase / 4096 + 0x100000 * (e .vbase / 4096))))))) in
     let f0 : eqb (w / 1 % 2) 1 ≡ e .valid = bit-of (w / 1 % 2) (e .valid) (fs .is-v) in
     let f1 : eqb (w / 2 % 2) 1 ≡ e .cacheable = bit-of (w / 2 % 2) (e .cacheable) (fs .is-c) in
     let f2 : eqb (w / 4 % 2) 1 ≡ e .bufferable = bit-of (w / 4 % 2) (e .bufferable) (fs .is-b) in
-    let f6 : w / 16777216 % 1048576 * 4096 ≡ e .pbase = ap (λ (x : ℕ). x * 4096) (fs .is-f) ∙ whole (e .pbase) (r .pbase) in
-    let f7 : w / 17592186044416 * 4096 ≡ e .vbase = ap (λ (x : ℕ). x * 4096) (fs .is-g) ∙ whole (e .vbase) (r .vbase) in
+    let f6 : w / 0x1000000 % 0x100000 * 4096 ≡ e .pbase = ap (λ (x : ℕ). x * 4096) (fs .is-f) ∙ whole (e .pbase) (r .pbase) in
+    let f7 : w / 0x100000000000 * 4096 ≡ e .vbase = ap (λ (x : ℕ). x * 4096) (fs .is-g) ∙ whole (e .vbase) (r .vbase) in
     rw (f0, f1, f2, fs .is-s, fs .is-d, fs .is-p, f6, f7)
   where
     whole : (n : ℕ) → n % 4096 ≡ 0 → n / 4096 * 4096 ≡ n

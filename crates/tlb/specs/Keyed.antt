@@ -5,13 +5,13 @@ use Rattle.tlb.specs.declared.Keys.{Keys}
 
 -- bit 0 valid, 3 to 7 size, 44 to 63 the virtual base
 abbrev pub keyOf : ℕ → ℕ
-keyOf w = w / 17592186044416 * 17592186044416 + w / 8 % 32 * 8 + w % 2
+keyOf w = w / 0x100000000000 * 0x100000000000 + w / 8 % 32 * 8 + w % 2
 
 -- those of a valid section, large page and small page
 unfoldable pub keysOf : VirtualAddress → Keys
 keysOf va =
     record {
-      section = va .0 / 4096 / 256 * 4503599627370496 + 1;
-      large = va .0 / 4096 / 16 * 281474976710656 + 9;
-      small = va .0 / 4096 * 17592186044416 + 17;
+      section = va .0 / 4096 / 256 * 0x10000000000000 + 1;
+      large = va .0 / 4096 / 16 * 0x1000000000000 + 9;
+      small = va .0 / 4096 * 0x100000000000 + 17;
     }

@@ -2,7 +2,7 @@
 -- to AP3, 24 to 43 the physical base and 44 to 63 the virtual base, both divided by 4096. 0 is the empty entry.
 use Prim.Native.Nat.{ℕ, _+_, _*_, _/_, _%_}
 use mathlib.Core.List.{List, map}
-use Rattle.values.specs.Tests.{bit, number}
+use Rattle.values.specs.Bits.{bit, number}
 use Rattle.values.specs.declared.Entry.{Entry}
 
 unfoldable pub entryOf : ℕ → Entry
@@ -10,10 +10,10 @@ entryOf w =
     record {
       valid = bit w 0;
       size = w / 8 % 32;
-      vbase = w / 17592186044416 * 4096;
-      pbase = w / 16777216 % 1048576 * 4096;
+      vbase = w / 0x100000000000 * 4096;
+      pbase = w / 0x1000000 % 0x100000 * 4096;
       domain = w / 256 % 256;
-      aps = w / 65536 % 256;
+      aps = w / 0x10000 % 256;
       cacheable = bit w 1;
       bufferable = bit w 2;
     }
@@ -21,7 +21,7 @@ entryOf w =
 unfoldable pub wordOf : Entry → ℕ
 wordOf e =
     number (e .valid) + 2 * (number (e .cacheable) + 2 * (number (e .bufferable) + 2 * (e .size + 32 * (e .domain + 256 * (e .aps
-    + 256 * (e .pbase / 4096 + 1048576 * (e .vbase / 4096)))))))
+    + 256 * (e .pbase / 4096 + 0x100000 * (e .vbase / 4096)))))))
 
 -- the entries that words stand for
 abbrev pub entriesOf : List ℕ → List Entry

@@ -4,7 +4,7 @@ use mathlib.Core.Bool.{Bool, cond, _&&_}
 use mathlib.Core.List.{List, map}
 use lib.Dec.{eqb}
 use lib.ListN.{set}
-use Rattle.values.specs.Tests.{firstFrom}
+use Rattle.values.specs.Lists.{firstFrom}
 use Rattle.values.specs.Empty.{emptyEntry, noEntries}
 use Rattle.values.specs.declared.VirtualAddress.{VirtualAddress}
 use Rattle.values.specs.declared.PhysicalAddress.{PhysicalAddress}
@@ -13,11 +13,11 @@ use Rattle.values.specs.declared.Search.{Search}
 
 -- the part of an address that an entry of a size translates: VA[31:20], VA[31:16], VA[31:12]
 abbrev pub baseOf : ℕ → ℕ → ℕ
-baseOf size a = cond (eqb size 0) (a / 1048576 * 1048576) (cond (eqb size 1) (a / 65536 * 65536) (a / 4096 * 4096))
+baseOf size a = cond (eqb size 0) (a / 0x100000 * 0x100000) (cond (eqb size 1) (a / 0x10000 * 0x10000) (a / 4096 * 4096))
 
 -- the part that it leaves
 abbrev pub withinOf : ℕ → ℕ → ℕ
-withinOf size a = cond (eqb size 0) (a % 1048576) (cond (eqb size 1) (a % 65536) (a % 4096))
+withinOf size a = cond (eqb size 0) (a % 0x100000) (cond (eqb size 1) (a % 0x10000) (a % 4096))
 
 -- an entry covers an address
 unfoldable pub covers : VirtualAddress → Entry → Bool

@@ -19,10 +19,10 @@ pub fn entry_of(w: u64) -> Entry
     Entry {
         valid: w % 2 == 1,
         size: (w / 8 % 32) as u32,
-        vbase: (w / 17592186044416 * 4096) as u32,
-        pbase: (w / 16777216 % 1048576 * 4096) as u32,
+        vbase: (w / 0x100000000000 * 4096) as u32,
+        pbase: (w / 0x1000000 % 0x100000 * 4096) as u32,
         domain: (w / 256 % 256) as u32,
-        aps: (w / 65536 % 256) as u32,
+        aps: (w / 0x10000 % 256) as u32,
         cacheable: w / 2 % 2 == 1,
         bufferable: w / 4 % 2 == 1,
     }
@@ -33,7 +33,7 @@ pub fn word_of(e: Entry) -> u64
     requires { ⌜ InRange e ⌝ }
     ensures { λ r. ⌜ r ≡ wordOf e ⌝ }
 {
-    let bases = (e.pbase / 4096) as u64 + 1048576 * ((e.vbase / 4096) as u64);
+    let bases = (e.pbase / 4096) as u64 + 0x100000 * ((e.vbase / 4096) as u64);
     let high = e.domain as u64 + 256 * (e.aps as u64 + 256 * bases);
     let valid = values::bit_number(e.valid) as u64;
     let cacheable = values::bit_number(e.cacheable) as u64;
@@ -42,19 +42,19 @@ pub fn word_of(e: Entry) -> u64
 }
 
 // Whether the entry that a word stands for covers an address.
-pub fn covers(w: u64, va: VirtualAddress) -> bool
+fn covers(w: u64, va: VirtualAddress) -> bool
     ensures { λ r. ⌜ r ≡ spec.covers va (entryOf w) ⌝ }
 {
     if w % 2 == 0 {
         return false;
     }
     let size = w / 8 % 32;
-    let vbase = (w / 17592186044416 * 4096) as u32;
+    let vbase = (w / 0x100000000000 * 4096) as u32;
     if size == 0 {
-        return va.0 / 1048576 * 1048576 == vbase;
+        return va.0 / 0x100000 * 0x100000 == vbase;
     }
     if size == 1 {
-        return va.0 / 65536 * 65536 == vbase;
+        return va.0 / 0x10000 * 0x10000 == vbase;
     }
     va.0 / 4096 * 4096 == vbase
 }
@@ -63,7 +63,7 @@ pub fn covers(w: u64, va: VirtualAddress) -> bool
 fn key(w: u64) -> u64
     ensures { λ r. ⌜ r ≡ keyOf w ⌝ }
 {
-    w / 17592186044416 * 17592186044416 + w / 8 % 32 * 8 + w % 2
+    w / 0x100000000000 * 0x100000000000 + w / 8 % 32 * 8 + w % 2
 }
 
 // The keys of the section, the large page and the small page that an address lies in.
@@ -78,9 +78,9 @@ fn keys_of(va: VirtualAddress) -> Keys
 {
     let page = (va.0 / 4096) as u64;
     Keys {
-        section: page / 256 * 4503599627370496 + 1,
-        large: page / 16 * 281474976710656 + 9,
-        small: page * 17592186044416 + 17,
+        section: page / 256 * 0x10000000000000 + 1,
+        large: page / 16 * 0x1000000000000 + 9,
+        small: page * 0x100000000000 + 17,
     }
 }
 
@@ -126,10 +126,10 @@ pub fn translated(e: Entry, va: VirtualAddress) -> PhysicalAddress
     ensures { λ r. ⌜ r ≡ spec.translated e va ⌝ }
 {
     if e.size == 0 {
-        return PhysicalAddress(e.pbase + va.0 % 1048576);
+        return PhysicalAddress(e.pbase + va.0 % 0x100000);
     }
     if e.size == 1 {
-        return PhysicalAddress(e.pbase + va.0 % 65536);
+        return PhysicalAddress(e.pbase + va.0 % 0x10000);
     }
     PhysicalAddress(e.pbase + va.0 % 4096)
 }

@@ -13,7 +13,7 @@ use Rattle.values.specs.declared.Answer.{Answer}
 use Rattle.values.proofs.Cases.{case}
 use Rattle.trace.specs.Calls.{callAt, isCallAt}
 use Rattle.trace.specs.Codes.{codeOf}
-use Rattle.trace.specs.Fold.{callsIn, Holds, Left, answersOf, finalOf, leftOf}
+use Rattle.trace.specs.Fold.{callsIn, Holds, Left, leaves, answersOf, finalOf, leftOf}
 
 -- ---- the calls of a list of numbers
 
@@ -56,8 +56,7 @@ module _ {S : Type 0} (next : S → Call → S) (answer : S → Call → Answer)
 
   -- what a run leaves that stands before call i, with some calls to come
   unfoldable pub leaving : S → ℕ → List Call → List ℕ → Left S
-  leaving s i cs answers =
-      record { machine = finalOf next answer s cs; answers = sets answers i (map codeOf (answersOf next answer s cs)); made = i + length cs }
+  leaving s i cs answers = leaves (finalOf next answer s cs) (sets answers i (map codeOf (answersOf next answer s cs))) (i + length cs)
 
   -- before call i, what the run leaves is what it leaves from the start
   abbrev pub Whole : List ℕ → List ℕ → ℕ → S → List ℕ → S → ℕ → Type 0
@@ -89,16 +88,16 @@ module _ {S : Type 0} (next : S → Call → S) (answer : S → Call → Answer)
           g ∙ ap (λ (x : List Call). leaving s i x answers) (sym (calls-more n i list h t)) ∙ w
 
       -- no call to come
-      last : callsIn (n - i) list i ≡ [] → record { machine = s; answers = answers; made = i } ≡ leftOf next answer s₀ (callsIn n list 0) answers₀
+      last : callsIn (n - i) list i ≡ [] → leaves s answers i ≡ leftOf next answer s₀ (callsIn n list 0) answers₀
       unfolding leaving answersOf finalOf
       last e =
-          let g : record { machine = s; answers = answers; made = i } ≡ leaving s i [] answers = rw (add-zero i) in
+          let g : leaves s answers i ≡ leaving s i [] answers = rw (add-zero i) in
           g ∙ ap (λ (x : List Call). leaving s i x answers) (sym e) ∙ w
 
       -- the run stops at five numbers that are no call, or at its end
       pub whole-stop : i < n → isCallAt list i ≡ false
-          → record { machine = s; answers = answers; made = i } ≡ leftOf next answer s₀ (callsIn n list 0) answers₀
+          → leaves s answers i ≡ leftOf next answer s₀ (callsIn n list 0) answers₀
       whole-stop h t = last (calls-stop n i list h t)
 
-      pub whole-end : n ≤ i → record { machine = s; answers = answers; made = i } ≡ leftOf next answer s₀ (callsIn n list 0) answers₀
+      pub whole-end : n ≤ i → leaves s answers i ≡ leftOf next answer s₀ (callsIn n list 0) answers₀
       whole-end h = last (calls-end n i list h)

@@ -5,13 +5,17 @@ use mathlib.Core.Bool.{Bool, cond, _&&_}
 use mathlib.Core.List.{List}
 use lib.Dec.{eqb, leb}
 use lib.ListN.{getD}
+use Rattle.values.specs.declared.Kind.{Kind}
+use Rattle.values.specs.declared.Kind.the-variants.{Load, SignedLoad, Store}
 use Rattle.values.specs.declared.Access.{Access}
 use Rattle.values.specs.declared.Transfer.{Transfer}
 use Rattle.values.specs.declared.Call.{Call}
-use Rattle.values.specs.declared.Call.the-variants.{Load, SignedLoad, Store, Read, Write}
+use Rattle.values.specs.declared.Call.the-variants.{Read, Write}
+use Rattle.values.specs.declared.Call.the-variants as calls
 
-abbrev pub accessOf : ℕ → ℕ → ℕ → Access
-accessOf privileged width address = record { privileged = eqb privileged 1; width = width; address = record { 0 = address } }
+abbrev pub accessOf : Kind → ℕ → ℕ → ℕ → Access
+accessOf kind privileged width address =
+    record { kind = kind; privileged = eqb privileged 1; width = width; address = record { 0 = address } }
 
 abbrev pub transferOf : ℕ → ℕ → ℕ → Transfer
 transferOf privileged register pair =
@@ -20,9 +24,9 @@ transferOf privileged register pair =
 -- the call of five numbers
 unfoldable pub callOf : ℕ → ℕ → ℕ → ℕ → ℕ → Call
 callOf kind privileged n a v =
-    cond (eqb kind 0) (Load (accessOf privileged n a))
-    (cond (eqb kind 1) (SignedLoad (accessOf privileged n a))
-    (cond (eqb kind 2) (Store (accessOf privileged n a) v)
+    cond (eqb kind 0) (calls.Access (accessOf Load privileged n a))
+    (cond (eqb kind 1) (calls.Access (accessOf SignedLoad privileged n a))
+    (cond (eqb kind 2) (calls.Access (accessOf (Store v) privileged n a))
     (cond (eqb kind 3) (Read (transferOf privileged n a))
     (Write (transferOf privileged n a) v))))
 

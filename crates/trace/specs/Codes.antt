@@ -25,10 +25,14 @@ numbersOf (answer.Refused n) = record { kind = 2; value = pos 0; status = 0; dom
 -- a signed number as 32 bits: −(n + 1) is 2^32 − 1 − n
 abbrev pub unsignedOf : ℤ → ℕ
 unsignedOf (pos n) = n
-unsignedOf (negsuc n) = 4294967295 - n
+unsignedOf (negsuc n) = 0xFFFFFFFF - n
+
+-- 2^32: what an answer's kind counts in its number, above a value of 32 bits
+abbrev pub kindUnit : ℕ
+kindUnit = 0x100000000
 
 -- kind × 2^32 + value: kind 0 is served, with the value, a signed one as 32 bits; 1 a fault, with FSR; 2 refused, with the refusal's number
 abbrev pub codeOf : Answer → ℕ
 codeOf a =
     let n = numbersOf a in
-    n .kind * 4294967296 + (unsignedOf (n .value) + (n .domain * 16 + n .status) + n .refusal)
+    n .kind * kindUnit + (unsignedOf (n .value) + (n .domain * 16 + n .status) + n .refusal)

@@ -25,6 +25,9 @@ pub record Left (S : Type 0) : Type 0 where
   pub answers : List ℕ
   pub made : ℕ
 
+abbrev pub leaves : {S : Type 0} → S → List ℕ → ℕ → Left S
+leaves machine answers made = record { machine = machine; answers = answers; made = made }
+
 -- each call gets the machine as the call before it left it
 module _ {S : Type 0} (next : S → Call → S) (answer : S → Call → Answer) where
   -- the answers of a list of calls
@@ -39,9 +42,4 @@ module _ {S : Type 0} (next : S → Call → S) (answer : S → Call → Answer)
 
   -- what they leave, with a lent list of answers: the answers of the calls stand at its front, and the rest of it is as it was
   unfoldable pub leftOf : S → List Call → List ℕ → Left S
-  leftOf s calls answers =
-      record {
-        machine = finalOf s calls;
-        answers = map codeOf (answersOf s calls) ++ drop (length calls) answers;
-        made = length calls;
-      }
+  leftOf s calls answers = leaves (finalOf s calls) (map codeOf (answersOf s calls) ++ drop (length calls) answers) (length calls)

@@ -7,13 +7,18 @@ ghost use Rattle.trace.specs.Codes as codes;
 use values::Access;
 use values::Answer;
 use values::Call;
+use values::Kind;
 use values::Transfer;
 use values::VirtualAddress;
 
-fn access_of(privileged: u32, width: u32, address: u32) -> Access
-    ensures { λ r. ⌜ r ≡ spec.accessOf privileged width address ⌝ }
+// What an answer's kind counts in its number: the value below it has 32 bits.
+const KIND_UNIT: u64 = 0x100000000;
+
+fn access_of(kind: Kind, privileged: u32, width: u32, address: u32) -> Access
+    ensures { λ r. ⌜ r ≡ spec.accessOf kind privileged width address ⌝ }
 {
     Access {
+        kind,
         privileged: privileged == 1,
         width,
         address: VirtualAddress(address),
@@ -36,13 +41,13 @@ pub fn call_of(kind: u32, privileged: u32, n: u32, a: u32, v: u32) -> Call
     ensures { λ r. ⌜ r ≡ spec.callOf kind privileged n a v ⌝ }
 {
     if kind == 0 {
-        return Call::Load(access_of(privileged, n, a));
+        return Call::Access(access_of(Kind::Load, privileged, n, a));
     }
     if kind == 1 {
-        return Call::SignedLoad(access_of(privileged, n, a));
+        return Call::Access(access_of(Kind::SignedLoad, privileged, n, a));
     }
     if kind == 2 {
-        return Call::Store(access_of(privileged, n, a), v);
+        return Call::Access(access_of(Kind::Store(v), privileged, n, a));
     }
     if kind == 3 {
         return Call::Read(transfer_of(privileged, n, a));
@@ -82,7 +87,7 @@ fn unsigned(z: i32) -> u32
     ensures { λ r. ⌜ r ≡ codes.unsignedOf z ⌝ }
 {
     if z < 0 {
-        4294967295 - ((!z) as u32)
+        0xFFFFFFFF - ((!z) as u32)
     } else {
         z as u32
     }
@@ -97,9 +102,9 @@ pub fn code(a: Answer) -> u64
         Answer::Signed(z) => unsigned(z) as u64,
         Answer::Fault(f) => {
             let s = f.status;
-            4294967296 + (f.domain as u64) * 16 + (values::status_number(s) as u64)
+            KIND_UNIT + (f.domain as u64) * 16 + (values::status_number(s) as u64)
         },
-        Answer::Refused(n) => 8589934592 + (n as u64),
+        Answer::Refused(n) => 2 * KIND_UNIT + (n as u64),
     }
 }
 

@@ -1,9 +1,8 @@
 -- The check of a translation is that of what it maps by.
 use Prim.Native.Nat.{_<_}
-use mathlib.Core.Bool.{Bool}
 use mathlib.Core.Path.{_≡_}
 use Rattle.values.specs.declared.Registers.{Registers}
-use Rattle.values.specs.declared.VirtualAddress.{VirtualAddress}
+use Rattle.values.specs.declared.Access.{Access}
 use Rattle.walk.specs.Ranges.{InRange}
 use Rattle.translation.specs.declared.Translation.{Translation}
 use Rattle.translation.specs.declared.Translation.the-variants.{Flat, Held, Walked, Failed}
@@ -12,20 +11,20 @@ use Rattle.translation.specs.declared.Checked.the-variants.{Passed, Deni
 use Rattle.translation.specs.declared.Mapped.{Mapped}
 use Rattle.translation.specs.declared.Mapped.the-variants as by
 use Rattle.translation.specs.Translation.{checked, checkedBy, flatPlace}
+use Rattle.translation.specs.Alignment.{cleared}
 use Rattle.translation.specs.Ranges.{Ranged}
 use Rattle.translation.specs.Code.{mappedOf}
 
-abbrev pub checkedIn : Registers → Bool → Bool → VirtualAddress → Mapped → Checked
-checkedIn r privileged store va by.Flat = Passed (flatPlace va)
-checkedIn r privileged store va (by.By e) = checkedBy r privileged store va e
-checkedIn r privileged store va (by.Failed s d) = Denied s d
+abbrev pub checkedIn : Registers → Access → Mapped → Checked
+checkedIn r a by.Flat = Passed (flatPlace (cleared a))
+checkedIn r a (by.By e) = checkedBy r a e
+checkedIn r a (by.Failed s d) = Denied s d
 
-pub checked-in : (r : Registers) (privileged store : Bool) (va : VirtualAddress) (t : Translation) (m : Mapped) → m ≡ mappedOf t
-    → checkedIn r privileged store va m ≡ checked r privileged store va t
-checked-in r privileged store va Flat m e = rw e
-checked-in r privileged store va (Held x) m e = rw e
-checked-in r privileged store va (Walked x) m e = rw e
-checked-in r privileged store va (Failed s d) m e = rw e
+pub checked-in : (r : Registers) (a : Access) (t : Translation) (m : Mapped) → m ≡ mappedOf t → checkedIn r a m ≡ checked r a t
+checked-in r a Flat m e = rw e
+checked-in r a (Held x) m e = rw e
+checked-in r a (Walked x) m e = rw e
+checked-in r a (Failed s d) m e = rw e
 
 abbrev pub RangedIn : Mapped → Type 0
 RangedIn by.Flat = Unit {0}

@@ -1,10 +1,10 @@
 -- Bounds and cases of alignment, translation and faults.
-use Prim.Native.Nat.{ℕ, _+_, _<_, _≤_, _%_}
+use Prim.Native.Nat.{ℕ, _+_, _-_, _<_, _≤_, _%_}
 use native.Mathlib.Omega.{arith}
 use mathlib.Core.Bool.{true, false}
 use mathlib.Core.Path.{_≡_}
-use mathlib.Core.List.{List}
 use lib.Dec.{eqb}
+use lib.Bits.{bitAnd, and-mask, and-zero-r}
 use borrow.Author.Tests.{eqb-true, eqb-false}
 use Rattle.values.specs.Control.{mmu}
 use Rattle.values.specs.declared.VirtualAddress.{VirtualAddress}
@@ -14,11 +14,11 @@ use Rattle.values.specs.declared.Entry.{Entry}
 use Rattle.values.proofs.Cases.{case}
 use Rattle.words.specs.Words.{isWidth}
 use Rattle.words.proofs.Widths.{is-one}
+use Rattle.bus.specs.Physical.{Physical}
 use Rattle.walk.specs.Walk.{walk}
 use Rattle.walk.specs.Ranges.{InRange}
 use Rattle.tlb.specs.Tlb.{translated}
 use Rattle.tlb.proofs.Laws.{translated-section, translated-large, translated-small}
-use Rattle.translation.specs.Refusals.{loadRefusal, storeRefusal}
 use Rattle.translation.specs.Alignment.{lowBits, cleared}
 use Rattle.translation.specs.Translation.{ofWalk, walkedOnly}
 use Rattle.translation.specs.declared.Translation.the-variants.{Flat}
@@ -28,8 +28,30 @@ pub low-le : (width a : ℕ) → lowBits width a ≤ a
 low-le width a =
     case (eqb width 4) (λ t. rw t (omega arith)) (λ t. case (eqb width 2) (λ u. rw (t, u) (omega arith)) (λ u. rw (t, u) (omega arith)))
 
+-- the low bits by a mask
+pub low-masked : (width a : ℕ) → isWidth width ≡ true → bitAnd a (width - 1) ≡ lowBits width a
+low-masked width a w =
+    case (eqb width 4)
+    (λ t. let e : width ≡ 4 = eqb-true width 4 t in rw e (and-mask a 2))
+    (λ t.
+    case (eqb width 2)
+    (λ u. let e : width ≡ 2 = eqb-true width 2 u in rw e (and-mask a 1))
+    (λ u.
+    let e : width ≡ 1 = is-one width w (eqb-false width 4 t) (eqb-false width 2 u) in
+    rw e (and-zero-r a)))
+
+-- a width of 1, 2 or 4 is some
+pub width-some : (width : ℕ) → isWidth width ≡ true → 1 ≤ width
+width-some width w =
+    case (eqb width 4)
+    (λ t. let e : width ≡ 4 = eqb-true width 4 t in omega arith)
+    (λ t.
+    case (eqb width 2)
+    (λ u. let e : width ≡ 2 = eqb-true width 2 u in omega arith)
+    (λ u. let e : width ≡ 1 = is-one width w (eqb-false width 4 t) (eqb-false width 2 u) in omega arith))
+
 -- with M set an address is walked for, with M clear it is flat
-module _ (r : Registers) (memory : List ℕ) (va : VirtualAddress) where
+module _ (r : Registers) (memory : Physical) (va : VirtualAddress) where
   pub walked-set : mmu r ≡ true → walkedOnly r memory va ≡ ofWalk (walk memory (r .base) va)
   unfolding walkedOnly
   walked-set h = rw h
@@ -59,10 +81,3 @@ access-fits a pa n w e h m =
     case (eqb (a .width) 2)
     (λ u. let k : a .width ≡ 2 = eqb-true (a .width) 2 u in let f = rw (t, u) at e in omega arith)
     (λ u. let k : a .width ≡ 1 = is-one (a .width) w (eqb-false (a .width) 4 t) (eqb-false (a .width) 2 u) in omega arith))
-
--- an access that is not refused has a width, and a store's value fits it
-pub load-accepted : (a : Access) → loadRefusal a ≡ 0 → isWidth (a .width) ≡ true
-load-accepted a e = case (isWidth (a .width)) (λ t. t) (λ t. let f = rw t at e in absurd (omega arith))
-
-pub store-accepted : (a : Access) (v : ℕ) → storeRefusal a v ≡ 0 → isWidth (a .width) ≡ true
-store-accepted a v e = case (isWidth (a .width)) (λ t. t) (λ t. let f = rw t at e in absurd (omega arith))

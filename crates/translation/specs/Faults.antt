@@ -1,19 +1,13 @@
--- What the two machines share behind translation: when an access aborts, which pages fill and buffer, and what a fault sets.
-use Prim.Native.Nat.{ℕ}
+-- What the two machines share behind translation: which pages fill and buffer, the statuses of aborts, and what a fault sets.
 use mathlib.Core.Bool.{Bool, cond, _&&_, _||_}
-use lib.Dec.{ltb}
 use Rattle.values.specs.Answers.{fsrOf}
 use Rattle.values.specs.Control.{mmu, dcache, writeBuffer}
-use Rattle.values.specs.declared.PhysicalAddress.{PhysicalAddress}
+use Rattle.values.specs.Registers.{withFsr, withFar}
 use Rattle.values.specs.declared.Registers.{Registers}
 use Rattle.values.specs.declared.Fault.{Fault}
 use Rattle.values.specs.declared.Status.{Status}
 use Rattle.values.specs.declared.Status.the-variants.{FillSection, FillPage, OtherSection, OtherPage}
 use Rattle.translation.specs.declared.Place.{Place}
-
--- An access, and its line, lie inside a memory of n bytes: n is a multiple of 32 and no access crosses a line, so its first byte decides.
-abbrev pub inside : ℕ → PhysicalAddress → Bool
-inside n pa = ltb (pa .0) n
 
 -- "A load miss with M, C-enable and the page's C bit fills"
 abbrev pub fills : Registers → Place → Bool
@@ -32,4 +26,4 @@ otherStatus p = cond (p .page) OtherPage OtherSection
 
 -- "A fault sets FSR, and FAR to the address given."
 unfoldable pub faultSet : Registers → Fault → Registers
-faultSet r f = record { control = r .control; base = r .base; domains = r .domains; fsr = fsrOf f; far = f .address .0 }
+faultSet r f = withFar (withFsr r (fsrOf f)) (f .address .0)

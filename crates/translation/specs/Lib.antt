@@ -1,4 +1,3 @@
-pub mod Refusals
 pub mod Alignment
 pub mod Translation
 pub mod Faults

@@ -8,16 +8,23 @@ use Rattle.values.specs.Addresses.{flat}
 use Rattle.values.specs.Control.{mmu, system, rom}
 use Rattle.values.specs.Empty.{emptyEntry}
 use Rattle.values.specs.declared.VirtualAddress.{VirtualAddress}
+use Rattle.values.specs.Kinds.{isStore}
+use Rattle.values.specs.Counts.{missed}
+use Rattle.values.specs.declared.Counts.{Counts}
 use Rattle.values.specs.declared.Registers.{Registers}
+use Rattle.values.specs.declared.Access.{Access}
 use Rattle.values.specs.declared.Entry.{Entry}
 use Rattle.values.specs.declared.Search.{Search}
 use Rattle.values.specs.declared.Search.the-variants.{At, Nothing}
-use Rattle.values.specs.declared.Status.the-variants.{DomainSection, DomainPage, PermissionSection, PermissionPage}
+use Rattle.values.specs.declared.Status.the-variants.{Alignment, DomainSection, DomainPage, PermissionSection, PermissionPage}
 use Rattle.rights.specs.Rights.{rights, domainValue}
+use Rattle.bus.specs.Physical.{Physical}
 use Rattle.walk.specs.Walk.{walk}
 use Rattle.walk.specs.declared.Mapping.{Mapping}
 use Rattle.walk.specs.declared.Mapping.the-variants as walked
 use Rattle.tlb.specs.Tlb.{lookup, translated, apOf, placed, stepped}
+use Rattle.translation.specs.Alignment.{alignmentFaults, cleared}
+use Rattle.translation.specs.declared.Decision.{Decision}
 use Rattle.translation.specs.declared.Translation.{Translation}
 use Rattle.translation.specs.declared.Translation.the-variants.{Flat, Held, Walked, Failed}
 use Rattle.translation.specs.declared.Place.{Place}
@@ -31,15 +38,15 @@ ofWalk (walked.Found e) = Walked e
 ofWalk (walked.Failed s d) = Failed s d
 
 -- the plain machine: "if M is set, walks its memory ...; else the address is flat"
-unfoldable pub walkedOnly : Registers → List ℕ → VirtualAddress → Translation
+unfoldable pub walkedOnly : Registers → Physical → VirtualAddress → Translation
 walkedOnly r memory va = cond (mmu r) (ofWalk (walk memory (r .base) va)) Flat
 
 -- "The lowest-numbered TLB entry that covers the address serves. Otherwise the walk reads memory only"
-abbrev pub ofLookup : List Entry → Registers → List ℕ → VirtualAddress → Search → Translation
+abbrev pub ofLookup : List Entry → Registers → Physical → VirtualAddress → Search → Translation
 ofLookup entries r memory va (At i) = Held (getD entries i emptyEntry)
 ofLookup entries r memory va Nothing = ofWalk (walk memory (r .base) va)
 
-unfoldable pub translation : List Entry → Registers → List ℕ → VirtualAddress → Translation
+unfoldable pub translation : List Entry → Registers → Physical → VirtualAddress → Translation
 translation entries r memory va = cond (mmu r) (ofLookup entries r memory va (lookup entries va)) Flat
 
 -- "A valid mapping goes to the TLB at its pointer, which then steps round the 32, before any rights are checked."
@@ -56,11 +63,11 @@ pointerAfter pointer (Walked e) = stepped pointer
 pointerAfter pointer (Failed s d) = pointer
 
 -- "A TLB miss counts even if its walk then faults"
-abbrev pub missesOf : Translation → ℕ
-missesOf Flat = 0
-missesOf (Held e) = 0
-missesOf (Walked e) = 1
-missesOf (Failed s d) = 1
+abbrev pub countsAfter : Counts → Translation → Counts
+countsAfter c Flat = c
+countsAfter c (Held e) = c
+countsAfter c (Walked e) = missed c
+countsAfter c (Failed s d) = missed c
 
 -- ---- whether it lets the access pass
 
@@ -83,12 +90,23 @@ judged right e va =
     (cond (eqb right 1) (Denied (cond (isPage e) DomainPage DomainSection) (e .domain))
     (Denied (cond (isPage e) PermissionPage PermissionSection) (e .domain)))
 
-unfoldable pub checkedBy : Registers → Bool → Bool → VirtualAddress → Entry → Checked
-checkedBy r privileged store va e =
-    judged (rights (domainValue (r .domains) (e .domain)) (apOf e va) (system r) (rom r) privileged store) e va
+unfoldable pub checkedBy : Registers → Access → Entry → Checked
+checkedBy r a e =
+    let va = cleared a in
+    judged (rights (domainValue (r .domains) (e .domain)) (apOf e va) (system r) (rom r) (a .privileged) (isStore (a .kind))) e va
 
-abbrev pub checked : Registers → Bool → Bool → VirtualAddress → Translation → Checked
-checked r privileged store va Flat = Passed (flatPlace va)
-checked r privileged store va (Held e) = checkedBy r privileged store va e
-checked r privileged store va (Walked e) = checkedBy r privileged store va e
-checked r privileged store va (Failed s d) = Denied s d
+abbrev pub checked : Registers → Access → Translation → Checked
+checked r a Flat = Passed (flatPlace (cleared a))
+checked r a (Held e) = checkedBy r a e
+checked r a (Walked e) = checkedBy r a e
+checked r a (Failed s d) = Denied s d
+
+-- ---- what is decided of an access before anything changes
+
+-- which mapping serves, and whether alignment, translation and rights pass
+abbrev pub decision : Translation → Checked → Decision
+decision mapping checked = record { mapping = mapping; checked = checked }
+
+-- "Alignment: with A set, ... faults", status 1, domain 0, before translation: no mapping is asked for
+unfoldable pub decided : Registers → Access → Translation → Decision
+decided r a t = cond (alignmentFaults r a) (decision Flat (Denied Alignment 0)) (decision t (checked r a t))

@@ -10,13 +10,14 @@ ghost use Rattle.words.specs.Signed as signs;
 ghost use Rattle.translation.specs.Alignment as aligned;
 ghost use Rattle.translation.specs.Translation as spec;
 ghost use Rattle.translation.specs.Faults as faults;
-ghost use Rattle.translation.specs.Refusals.{loadRefusal, storeRefusal};
+ghost use Rattle.bus.specs.Physical.{physical};
 ghost use Rattle.translation.specs.Ranges.{Ranged, Is, CheckedIs};
 ghost use Rattle.translation.specs.Code.{mappedOf};
 use values::Access;
 use values::Answer;
 use values::Entry;
 use values::Fault;
+use values::Kind;
 use values::PhysicalAddress;
 use values::Registers;
 use values::Status;
@@ -46,43 +47,23 @@ pub enum Checked {
     Denied(Status, u32),
 }
 
-// Refusal 6, or 0.
-pub fn load_refusal(a: Access) -> u32
-    ensures { λ r. ⌜ r ≡ loadRefusal a ⌝ }
-{
-    if words::is_width(a.width) { 0 } else { 6 }
+// What is decided of an access before anything changes: which mapping serves, and whether alignment, translation and rights pass.
+pub struct Decision {
+    pub mapping: Translation,
+    pub checked: Checked,
 }
 
-// Refusal 6 or 7, or 0.
-pub fn store_refusal(a: Access, value: u32) -> u32
-    ensures { λ r. ⌜ r ≡ storeRefusal a value ⌝ }
-{
-    if words::is_width(a.width) {
-        if words::fits_width(a.width, value) {
-            0
-        } else {
-            7
-        }
-    } else {
-        6
-    }
-}
-
-// The low bits of an address, for a width of 1, 2 or 4.
+// The low bits of an address, for a width of 1, 2 or 4: without a branch.
 fn low_bits(width: u32, a: u32) -> u32
+    requires { ⌜ isWidth width ≡ true ⌝ }
     ensures { λ r. ⌜ r ≡ aligned.lowBits width a ⌝ }
 {
-    if width == 4 {
-        return a % 4;
-    }
-    if width == 2 {
-        return a % 2;
-    }
-    0
+    a & (width - 1)
 }
 
 // Whether an access is a word not at a multiple of 4 or a halfword at an odd address.
-pub fn is_misaligned(a: Access) -> bool
+fn is_misaligned(a: Access) -> bool
+    requires { ⌜ isWidth (a .width) ≡ true ⌝ }
     ensures { λ r. ⌜ r ≡ aligned.misaligned a ⌝ }
 {
     let va = a.address;
@@ -91,6 +72,7 @@ pub fn is_misaligned(a: Access) -> bool
 
 // Whether an access faults by its alignment.
 pub fn faults_alignment(r: Registers, a: Access) -> bool
+    requires { ⌜ isWidth (a .width) ≡ true ⌝ }
     ensures { λ b. ⌜ b ≡ aligned.alignmentFaults r a ⌝ }
 {
     if values::alignment(r) {
@@ -101,6 +83,7 @@ pub fn faults_alignment(r: Registers, a: Access) -> bool
 
 // The address with its low bits cleared.
 pub fn cleared(a: Access) -> VirtualAddress
+    requires { ⌜ isWidth (a .width) ≡ true ⌝ }
     ensures { λ r. ⌜ r ≡ aligned.cleared a ⌝ }
 {
     let va = a.address;
@@ -121,7 +104,7 @@ pub fn of_walk(m: Mapping) -> Translation
 // The plain machine's translation: it walks for every access.
 pub fn walked_only(memory: &[u8], r: Registers, va: VirtualAddress) -> Translation
     requires { ⌜ r .base % 16384 ≡ 0 ⌝ }
-    ensures { λ t. ⌜ Is t (spec.walkedOnly r (now (memory .entry)) va) ⌝ }
+    ensures { λ t. ⌜ Is t (spec.walkedOnly r (physical (now (memory .entry))) va) ⌝ }
 {
     if values::mmu(r) {
         of_walk(walk::walk(memory, r.base, va))
@@ -141,6 +124,21 @@ fn place_of(e: Entry, va: VirtualAddress) -> Place
         domain: e.domain,
         cacheable: e.cacheable,
         bufferable: e.bufferable,
+    }
+}
+
+// The place of an access with M clear.
+fn flat_place(a: Access) -> Place
+    requires { ⌜ isWidth (a .width) ≡ true ⌝ }
+    ensures { λ r. ⌜ r ≡ spec.flatPlace (aligned.cleared a) ⌝ }
+{
+    let va = cleared(a);
+    Place {
+        address: PhysicalAddress(va.0),
+        page: false,
+        domain: 0,
+        cacheable: false,
+        bufferable: false,
     }
 }
 
@@ -165,20 +163,22 @@ fn judged(right: u8, e: Entry, va: VirtualAddress) -> Checked
 }
 
 // Whether a mapping lets an access pass.
-pub fn check_by(
-    table: &[u8; 256],
-    r: Registers,
-    privileged: bool,
-    store: bool,
-    va: VirtualAddress,
-    e: Entry,
-) -> Checked
-    requires { ⌜ (now table ≡ rightsTable) × InRange e ⌝ }
-    ensures { λ c. ⌜ CheckedIs va c (spec.checkedBy r privileged store va e) ⌝ }
+fn check_by(table: &[u8; 256], r: Registers, a: Access, e: Entry) -> Checked
+    requires { ⌜ (now table ≡ rightsTable) × InRange e × (isWidth (a .width) ≡ true) ⌝ }
+    ensures { λ c. ⌜ CheckedIs (aligned.cleared a) c (spec.checkedBy r a e) ⌝ }
 {
+    let va = cleared(a);
+    let k = a.kind;
     let value = rights::domain_value(r.domains, e.domain);
     let ap = tlb::ap_of(e, va);
-    let right = rights::right(table, value, ap, r.control, privileged, store);
+    let right = rights::right(
+        table,
+        value,
+        ap,
+        r.control,
+        a.privileged,
+        values::is_store(k),
+    );
     judged(right, e, va)
 }
 
@@ -201,27 +201,14 @@ fn mapped_by(t: Translation) -> Mapped
 }
 
 // Whether a translation lets an access pass.
-pub fn check(
-    table: &[u8; 256],
-    r: Registers,
-    privileged: bool,
-    store: bool,
-    va: VirtualAddress,
-    t: Translation,
-) -> Checked
-    requires { ⌜ (now table ≡ rightsTable) × Ranged t ⌝ }
-    ensures { λ c. ⌜ CheckedIs va c (spec.checked r privileged store va t) ⌝ }
+pub fn check(table: &[u8; 256], r: Registers, a: Access, t: Translation) -> Checked
+    requires { ⌜ (now table ≡ rightsTable) × Ranged t × (isWidth (a .width) ≡ true) ⌝ }
+    ensures { λ c. ⌜ CheckedIs (aligned.cleared a) c (spec.checked r a t) ⌝ }
 {
     let m = mapped_by(t);
     match m {
-        Mapped::Flat => Checked::Passed(Place {
-            address: PhysicalAddress(va.0),
-            page: false,
-            domain: 0,
-            cacheable: false,
-            bufferable: false,
-        }),
-        Mapped::By(e) => check_by(table, r, privileged, store, va, e),
+        Mapped::Flat => Checked::Passed(flat_place(a)),
+        Mapped::By(e) => check_by(table, r, a, e),
         Mapped::Failed(s, d) => Checked::Denied(s, d),
     }
 }
@@ -284,23 +271,20 @@ pub fn fault_set(r: Registers, f: Fault) -> Registers
 {
     let s = f.status;
     let va = f.address;
-    Registers {
-        control: r.control,
-        base: r.base,
-        domains: r.domains,
-        fsr: f.domain * 16 + values::status_number(s),
-        far: va.0,
-    }
+    let mut out = r;
+    out.fsr = f.domain * 16 + values::status_number(s);
+    out.far = va.0;
+    out
 }
 
-// What a load of a value answers.
-pub fn load_answer(signed: bool, width: u32, value: u32) -> Answer
+// What an access answers that loads a value.
+pub fn load_answer(k: Kind, width: u32, value: u32) -> Answer
     requires { ⌜ (isWidth width ≡ true) × (value < 256 ^ width) ⌝ }
-    ensures { λ a. ⌜ a ≡ signs.loadAnswer signed width value ⌝ }
+    ensures { λ a. ⌜ a ≡ signs.loadAnswer k width value ⌝ }
 {
-    if signed {
-        Answer::Signed(words::signed(width, value))
-    } else {
-        Answer::Value(value)
+    match k {
+        Kind::Load => Answer::Value(value),
+        Kind::SignedLoad => Answer::Signed(words::signed(width, value)),
+        Kind::Store(x) => Answer::Value(value),
     }
 }

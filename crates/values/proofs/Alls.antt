@@ -7,7 +7,7 @@ use mathlib.Core.Path.{_≡_, refl, ap, _∙_}
 use mathlib.Core.List.{List, [], _∷_, map}
 use lib.ListN.{length, length-map, getD, drop, drop-of-length-le}
 use lib.Seq.{drop-cons}
-use Rattle.values.specs.Tests.{all, sum}
+use Rattle.values.specs.Lists.{all, sum}
 use Rattle.values.proofs.Cases.{and-left, and-right, and-false}
 use Rattle.values.proofs.Maps.{map-at}
 

@@ -7,7 +7,7 @@ use mathlib.Core.Path.{_≡_, refl}
 use mathlib.Core.List.{List, [], _∷_}
 use lib.ListN.{length, getD, drop, drop-of-length-le}
 use lib.Seq.{drop-cons}
-use Rattle.values.specs.Tests.{any}
+use Rattle.values.specs.Lists.{any}
 use Rattle.values.proofs.Cases.{or-right, or-none}
 
 -- what it means

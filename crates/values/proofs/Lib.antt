@@ -7,3 +7,5 @@ pub mod Anys
 pub mod Alls
 pub mod Sums
 pub mod Firsts
+pub mod Inverses
+pub mod Fields

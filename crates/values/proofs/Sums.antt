@@ -7,7 +7,7 @@ use lib.Dec.{ltb}
 use lib.ListN.{length, getD, set, replicate, List·getD-eq-default}
 use lib.Seq.{set-out}
 use borrow.Author.Tests.{ltb-true, ltb-false}
-use Rattle.values.specs.Tests.{sum}
+use Rattle.values.specs.Lists.{sum}
 use Rattle.values.proofs.Cases.{case}
 
 module _ {A : Type 0} (g : A → ℕ) where

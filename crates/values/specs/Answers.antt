@@ -1,7 +1,8 @@
 -- "Status, in order": the numbers of the statuses, and FSR.
 use Prim.Native.Nat.{ℕ, _+_, _*_}
 use Rattle.values.specs.declared.Status.{Status}
-use Rattle.values.specs.declared.Status.the-variants.{Alignment, WalkFirst, WalkSecond, TranslationSection, TranslationPage, DomainSection, DomainPage, PermissionSection, PermissionPage, FillSection, FillPage, OtherSection, OtherPage}
+use Rattle.values.specs.declared.Status.the-variants.{Alignment, WalkFirst, WalkSecond, TranslationSection, TranslationPage, DomainSection}
+use Rattle.values.specs.declared.Status.the-variants.{DomainPage, PermissionSection, PermissionPage, FillSection, FillPage, OtherSection, OtherPage}
 use Rattle.values.specs.declared.Fault.{Fault}
 
 -- "alignment 1; walk outside memory 12 (level 1), 14 (level 2); translation 5, 7; domain 9, 11; permission 13, 15;

@@ -1,7 +1,7 @@
 -- Register 1, control: its bits.
 use Prim.Native.Nat.{ℕ, _+_, _*_, _/_, _%_}
 use mathlib.Core.Bool.{Bool, not, _&&_, _||_}
-use Rattle.values.specs.Tests.{bit}
+use Rattle.values.specs.Bits.{bit}
 use Rattle.values.specs.declared.Registers.{Registers}
 
 -- "bits 0 M (MMU), 1 A (alignment), 2 C (Dcache), 3 W (buffer), 8 S, 9 R and 12 I"

@@ -1,10 +1,7 @@
--- Empty places: "emptied places become all zeros". "registers zero, ... pointers and counts zero".
+-- Empty places: "emptied places become all zeros". "registers zero, ... pointers ... zero".
 use mathlib.Core.Bool.{false}
 use mathlib.Core.List.{List}
 use lib.ListN.{replicate}
-use Rattle.values.specs.declared.Registers.{Registers}
-use Rattle.values.specs.declared.Cp15.{Cp15}
-use Rattle.values.specs.declared.Counts.{Counts}
 use Rattle.values.specs.declared.Entry.{Entry}
 use Rattle.values.specs.declared.Line.{Line}
 use Rattle.values.specs.declared.Slot.{Slot}
@@ -24,12 +21,3 @@ noLines = replicate 512 emptyLine
 
 abbrev pub emptySlot : Slot
 emptySlot = record { block = 0; mask = 0; bytes = replicate 16 0 }
-
-abbrev pub zeroRegisters : Registers
-zeroRegisters = record { control = 0; base = 0; domains = 0; fsr = 0; far = 0 }
-
-abbrev pub zeroCp15 : Cp15
-zeroCp15 = record { registers = zeroRegisters; pointer = 0 }
-
-abbrev pub zeroCounts : Counts
-zeroCounts = record { calls = 0; misses = 0; hits = 0; fills = 0; halves = 0 }

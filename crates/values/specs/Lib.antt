@@ -1,5 +1,10 @@
-pub mod Tests
+pub mod Bits
+pub mod Lists
 pub mod Addresses
 pub mod Answers
 pub mod Control
 pub mod Empty
+pub mod Kinds
+pub mod Registers
+pub mod Counts
+pub mod Rows

@@ -1,9 +1,12 @@
 // The shared types of document 01: addresses, faults, answers, registers, counts, calls, and the places of TLB, Dcache and write buffer.
 ghost use mathlib.Core.Path.{_≡_};
 ghost use Prim.Native.Nat.{_<_};
-ghost use Rattle.values.specs.Tests.{number};
+ghost use Rattle.values.specs.Bits.{number};
 ghost use Rattle.values.specs.Answers.{statusOf};
 ghost use Rattle.values.specs.Control as spec;
+ghost use Rattle.values.specs.Kinds.{isStore};
+ghost use Rattle.values.specs.Registers.{zeroRegisters, zeroCp15};
+ghost use Rattle.values.specs.Counts.{zeroCounts};
 
 // A virtual address, 32 bits.
 pub struct VirtualAddress(pub u32);
@@ -60,18 +63,31 @@ pub struct Cp15 {
     pub pointer: u32,
 }
 
+// A count, and the count of calls at which refusal 5 begins. No count is above it.
+pub type Count = u32;
+
+pub const COUNT_LIMIT: Count = 0xFFFFFFFF;
+
 // The five counts: calls, TLB misses, Dcache hits, line fills, halves sent out.
 #[repr(C)]
 pub struct Counts {
-    pub calls: u32,
-    pub misses: u32,
-    pub hits: u32,
-    pub fills: u32,
-    pub halves: u32,
+    pub calls: Count,
+    pub misses: Count,
+    pub hits: Count,
+    pub fills: Count,
+    pub halves: Count,
 }
 
-// A data access: its mode, its width in bytes, its virtual address.
+// What an access does; a store carries its value.
+pub enum Kind {
+    Load,
+    SignedLoad,
+    Store(u32),
+}
+
+// A data access: what it does, its mode, its width in bytes, its virtual address.
 pub struct Access {
+    pub kind: Kind,
     pub privileged: bool,
     pub width: u32,
     pub address: VirtualAddress,
@@ -85,11 +101,9 @@ pub struct Transfer {
     pub crm: u32,
 }
 
-// A call of the library. A store and a CP15 write carry their value.
+// A call of the library. A CP15 write carries its value.
 pub enum Call {
-    Load(Access),
-    SignedLoad(Access),
-    Store(Access, u32),
+    Access(Access),
     Read(Transfer),
     Write(Transfer, u32),
 }
@@ -153,6 +167,53 @@ pub fn status_number(s: Status) -> u32
         Status::FillPage => 6,
         Status::OtherSection => 8,
         Status::OtherPage => 10,
+    }
+}
+
+// Whether an access stores.
+pub fn is_store(k: Kind) -> bool
+    ensures { λ b. ⌜ b ≡ isStore k ⌝ }
+{
+    match k {
+        Kind::Load => false,
+        Kind::SignedLoad => false,
+        Kind::Store(v) => true,
+    }
+}
+
+// Registers of zeros.
+pub fn zero_registers() -> Registers
+    ensures { λ r. ⌜ r ≡ zeroRegisters ⌝ }
+{
+    Registers {
+        control: 0,
+        base: 0,
+        domains: 0,
+        fsr: 0,
+        far: 0,
+    }
+}
+
+// A record of zeros.
+pub fn zero_cp15() -> Cp15
+    ensures { λ r. ⌜ r ≡ zeroCp15 ⌝ }
+{
+    Cp15 {
+        registers: zero_registers(),
+        pointer: 0,
+    }
+}
+
+// Counts of zero.
+pub fn zero_counts() -> Counts
+    ensures { λ r. ⌜ r ≡ zeroCounts ⌝ }
+{
+    Counts {
+        calls: 0,
+        misses: 0,
+        hits: 0,
+        fills: 0,
+        halves: 0,
     }
 }
 

@@ -1,27 +1,28 @@
--- A walk depends on memory's length and on the words that it reads alone.
-use Prim.Native.Nat.{ℕ, _+_, _*_, _/_, _%_}
-use native.Mathlib.Omega.{arith}
+-- A walk depends on which words abort and on the words that it reads alone.
+use Prim.Native.Nat.{ℕ, _*_, _%_}
 use mathlib.Core.Bool.{Bool, true, false}
 use mathlib.Core.Path.{_≡_, refl, sym, _∙_, ap, subst}
 use mathlib.Core.List.{List, [], _∷_, _++_}
-use lib.Dec.{eqb, leb}
-use lib.ListN.{length}
-use borrow.Author.Tests.{eq-eqb, leb-true, leb-false}
-use Rattle.values.specs.Tests.{any}
+use lib.Dec.{eqb}
+use borrow.Author.Tests.{eq-eqb}
+use Rattle.values.specs.Lists.{any}
 use Rattle.values.specs.Addresses.{wordOf}
 use Rattle.values.specs.declared.VirtualAddress.{VirtualAddress}
 use Rattle.values.specs.declared.PhysicalAddress.{PhysicalAddress}
 use Rattle.values.proofs.Cases.{case, or-left, or-right}
 use Rattle.words.specs.Words.{valueAt}
-use Rattle.walk.specs.declared.Descriptor.{Descriptor}
-use Rattle.walk.specs.declared.Descriptor.the-variants.{Word, Outside}
-use Rattle.walk.specs.Walk.{descriptorAt, firstAddress, secondAddress, domainOf, first, second, walk}
+use Rattle.bus.specs.declared.Descriptor.{Descriptor}
+use Rattle.bus.specs.declared.Descriptor.the-variants.{Word, Outside}
+use Rattle.bus.specs.Physical.{Physical, aborts}
+use Rattle.bus.specs.Reader.{descriptorAt}
+use Rattle.walk.specs.Walk.{firstAddress, secondAddress, domainOf, first, second, walk}
 use Rattle.walk.specs.Reads.{readAt, secondReads, wordsRead}
-use Rattle.walk.proofs.Laws.{descriptor-in, descriptor-out, walk-by}
+use Rattle.bus.proofs.Laws.{descriptor-in, descriptor-out}
+use Rattle.walk.proofs.Laws.{walk-by}
 
 -- two memories have the same words at these numbers
-abbrev pub Agree : List ℕ → List ℕ → List ℕ → Type 0
-Agree m l ws = (w : ℕ) → any (eqb w) ws ≡ true → valueAt 4 m (4 * w) ≡ valueAt 4 l (4 * w)
+abbrev pub Agree : Physical → Physical → List ℕ → Type 0
+Agree m l ws = (w : ℕ) → any (eqb w) ws ≡ true → valueAt 4 (m .bytes) (w * 4) ≡ valueAt 4 (l .bytes) (w * 4)
 
 any-front : (w : ℕ) (xs ys : List ℕ) → any (eqb w) xs ≡ true → any (eqb w) (xs ++ ys) ≡ true
 unfolding any
@@ -33,21 +34,17 @@ unfolding any
 any-back w [] ys h = h
 any-back w (x ∷ xs) ys h = or-right (eqb w x) (any (eqb w) (xs ++ ys)) (any-back w xs ys h)
 
-module _ (m l : List ℕ) (long : length m ≡ length l) where
-  -- a descriptor at a multiple of 4
-  pub descriptor-same : (pa : PhysicalAddress) → pa .0 % 4 ≡ 0 → Agree m l (readAt pa (descriptorAt m pa)) → descriptorAt m pa ≡ descriptorAt l pa
+module _ (m l : Physical) (same-aborts : (pa : PhysicalAddress) → aborts m pa ≡ aborts l pa) where
+  pub descriptor-same : (pa : PhysicalAddress) → Agree m l (readAt pa (descriptorAt m pa)) → descriptorAt m pa ≡ descriptorAt l pa
   unfolding any
-  descriptor-same pa h a =
-      case (leb (pa .0 + 4) (length m))
+  descriptor-same pa a =
+      case (aborts m pa)
+      (λ t. descriptor-out m pa t ∙ sym (descriptor-out l pa (sym (same-aborts pa) ∙ t)))
       (λ t.
-      let i = leb-true (pa .0 + 4) (length m) t in
-      let e = descriptor-in m pa i in
-      let k : 4 * (pa .0 / 4) ≡ pa .0 = omega arith in
+      let e = descriptor-in m pa t in
       let b : Agree m l (wordOf pa ∷ []) = subst (λ (d : Descriptor). Agree m l (readAt pa d)) e a in
       let v = b (wordOf pa) (or-left (eqb (wordOf pa) (wordOf pa)) false (eq-eqb (wordOf pa) (wordOf pa) refl)) in
-      let w : valueAt 4 m (pa .0) ≡ valueAt 4 l (pa .0) = subst (λ (x : ℕ). valueAt 4 m x ≡ valueAt 4 l x) k v in
-      e ∙ ap Word w ∙ sym (descriptor-in l pa (omega arith)))
-      (λ t. descriptor-out m pa (leb-false (pa .0 + 4) (length m) t) ∙ sym (descriptor-out l pa (let h = leb-false (pa .0 + 4) (length m) t in omega arith)))
+      e ∙ ap Word v ∙ sym (descriptor-in l pa (sym (same-aborts pa) ∙ t)))
 
   first-same : (va : VirtualAddress) (d : Descriptor) → Agree m l (secondReads m va d) → first m va d ≡ first l va d
   unfolding first secondReads
@@ -56,14 +53,14 @@ module _ (m l : List ℕ) (long : length m ≡ length l) where
       case (eqb (w % 4) 1)
       (λ t.
       let b : Agree m l (readAt (secondAddress w va) (descriptorAt m (secondAddress w va))) = rw t at a in
-      let e = descriptor-same (secondAddress w va) (omega arith) b in
+      let e = descriptor-same (secondAddress w va) b in
       rw t (ap (λ (d : Descriptor). second (domainOf w) va d) e))
       (λ t. rw t)
 
-  pub walk-same : (base : ℕ) (va : VirtualAddress) → base % 4 ≡ 0 → Agree m l (wordsRead m base va) → walk m base va ≡ walk l base va
+  pub walk-same : (base : ℕ) (va : VirtualAddress) → Agree m l (wordsRead m base va) → walk m base va ≡ walk l base va
   unfolding wordsRead
-  walk-same base va h a =
+  walk-same base va a =
       let d = descriptorAt m (firstAddress base va) in
-      let e = descriptor-same (firstAddress base va) (omega arith) (λ w t. a w (any-front w (readAt (firstAddress base va) d) (secondReads m va d) t)) in
+      let e = descriptor-same (firstAddress base va) (λ w t. a w (any-front w (readAt (firstAddress base va) d) (secondReads m va d) t)) in
       walk-by m base va d refl ∙ first-same va d (λ w t. a w (any-back w (readAt (firstAddress base va) d) (secondReads m va d) t))
       ∙ sym (walk-by l base va d (sym e))

@@ -2,26 +2,27 @@
 use Prim.Native.Nat.{ℕ, _%_}
 use native.Mathlib.Omega.{arith}
 use mathlib.Core.Path.{_≡_, refl, sym, _∙_, ap}
-use mathlib.Core.List.{List}
 use lib.Dec.{eqb}
 use borrow.Author.Tests.{eqb-true}
 use Rattle.values.specs.declared.VirtualAddress.{VirtualAddress}
 use Rattle.values.specs.declared.Entry.{Entry}
 use Rattle.values.proofs.Cases.{case}
-use Rattle.walk.specs.declared.Descriptor.{Descriptor}
-use Rattle.walk.specs.declared.Descriptor.the-variants.{Word, Outside}
+use Rattle.bus.specs.declared.Descriptor.{Descriptor}
+use Rattle.bus.specs.declared.Descriptor.the-variants.{Word, Outside}
 use Rattle.walk.specs.declared.Mapping.the-variants.{Found}
-use Rattle.walk.specs.Walk.{descriptorAt, firstAddress, secondAddress, domainOf, sectionEntry, largeEntry, smallEntry, first, second, walk}
+use Rattle.bus.specs.Physical.{Physical}
+use Rattle.bus.specs.Reader.{descriptorAt}
+use Rattle.walk.specs.Walk.{firstAddress, secondAddress, domainOf, sectionEntry, largeEntry, smallEntry, first, second, walk}
 use Rattle.walk.proofs.Laws.{second-large, second-small, first-table, first-section, walk-by}
 
-pub data Finds (m : List ℕ) (base : ℕ) (va : VirtualAddress) (e : Entry) : Type 0 where
+pub data Finds (m : Physical) (base : ℕ) (va : VirtualAddress) (e : Entry) : Type 0 where
   by-section : (w : ℕ) → descriptorAt m (firstAddress base va) ≡ Word w → w % 4 ≡ 2 → e ≡ sectionEntry w va → Finds m base va e
   by-large : (w v : ℕ) → descriptorAt m (firstAddress base va) ≡ Word w → w % 4 ≡ 1 → descriptorAt m (secondAddress w va) ≡ Word v
       → v % 4 ≡ 1 → e ≡ largeEntry (domainOf w) v va → Finds m base va e
   by-small : (w v : ℕ) → descriptorAt m (firstAddress base va) ≡ Word w → w % 4 ≡ 1 → descriptorAt m (secondAddress w va) ≡ Word v
       → v % 4 ≡ 2 → e ≡ smallEntry (domainOf w) v va → Finds m base va e
 
-module _ (m : List ℕ) (base : ℕ) (va : VirtualAddress) where
+module _ (m : Physical) (base : ℕ) (va : VirtualAddress) where
   pub walk-section : (w : ℕ) → descriptorAt m (firstAddress base va) ≡ Word w → w % 4 ≡ 2 → walk m base va ≡ Found (sectionEntry w va)
   walk-section w d k = walk-by m base va (Word w) d ∙ first-section m va w k
 

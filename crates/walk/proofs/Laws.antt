@@ -1,26 +1,15 @@
 -- The cases of a walk.
-use Prim.Native.Nat.{ℕ, _+_, _%_, _<_, _≤_}
+use Prim.Native.Nat.{ℕ, _%_}
 use mathlib.Core.Path.{_≡_, ap}
-use mathlib.Core.List.{List}
-use lib.ListN.{length}
-use borrow.Author.Tests.{le-leb, lt-leb, eq-eqb, ne-eqb}
+use borrow.Author.Tests.{eq-eqb, ne-eqb}
 use Rattle.values.specs.declared.VirtualAddress.{VirtualAddress}
-use Rattle.values.specs.declared.PhysicalAddress.{PhysicalAddress}
 use Rattle.values.specs.declared.Status.the-variants.{TranslationSection, TranslationPage}
-use Rattle.words.specs.Words.{valueAt}
-use Rattle.walk.specs.declared.Descriptor.{Descriptor}
-use Rattle.walk.specs.declared.Descriptor.the-variants.{Word, Outside}
+use Rattle.bus.specs.Physical.{Physical}
+use Rattle.bus.specs.declared.Descriptor.{Descriptor}
+use Rattle.bus.specs.declared.Descriptor.the-variants.{Word}
 use Rattle.walk.specs.declared.Mapping.the-variants.{Found, Failed}
-use Rattle.walk.specs.Walk.{descriptorAt, firstAddress, secondAddress, domainOf, sectionEntry, largeEntry, smallEntry, first, second, walk}
-
-module _ (m : List ℕ) (pa : PhysicalAddress) where
-  pub descriptor-in : pa .0 + 4 ≤ length m → descriptorAt m pa ≡ Word (valueAt 4 m (pa .0))
-  unfolding descriptorAt
-  descriptor-in h = rw (le-leb (pa .0 + 4) (length m) h)
-
-  pub descriptor-out : length m < pa .0 + 4 → descriptorAt m pa ≡ Outside
-  unfolding descriptorAt
-  descriptor-out h = rw (lt-leb (pa .0 + 4) (length m) h)
+use Rattle.bus.specs.Reader.{descriptorAt}
+use Rattle.walk.specs.Walk.{firstAddress, secondAddress, domainOf, sectionEntry, largeEntry, smallEntry, first, second, walk}
 
 module _ (domain : ℕ) (va : VirtualAddress) (w : ℕ) where
   pub second-large : w % 4 ≡ 1 → second domain va (Word w) ≡ Found (largeEntry domain w va)
@@ -35,7 +24,7 @@ module _ (domain : ℕ) (va : VirtualAddress) (w : ℕ) where
   unfolding second
   second-none h k = rw (ne-eqb (w % 4) 1 h, ne-eqb (w % 4) 2 k)
 
-module _ (m : List ℕ) (va : VirtualAddress) (w : ℕ) where
+module _ (m : Physical) (va : VirtualAddress) (w : ℕ) where
   pub first-table : w % 4 ≡ 1 → first m va (Word w) ≡ second (domainOf w) va (descriptorAt m (secondAddress w va))
   unfolding first
   first-table h = rw (eq-eqb (w % 4) 1 h)
@@ -49,7 +38,7 @@ module _ (m : List ℕ) (va : VirtualAddress) (w : ℕ) where
   first-none h k = rw (ne-eqb (w % 4) 1 h, ne-eqb (w % 4) 2 k)
 
 -- a walk by its level 1 word
-pub walk-by : (m : List ℕ) (base : ℕ) (va : VirtualAddress) (d : Descriptor) → descriptorAt m (firstAddress base va) ≡ d
+pub walk-by : (m : Physical) (base : ℕ) (va : VirtualAddress) (d : Descriptor) → descriptorAt m (firstAddress base va) ≡ d
     → walk m base va ≡ first m va d
 unfolding walk
 walk-by m base va d e = ap (λ (x : Descriptor). first m va x) e

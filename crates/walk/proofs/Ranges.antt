@@ -5,7 +5,7 @@ use Rattle.values.specs.declared.VirtualAddress.{VirtualAddress}
 use Rattle.walk.specs.Walk.{sectionEntry, largeEntry, smallEntry}
 use Rattle.walk.specs.Ranges.{InRange}
 
-pub section-ranged : (w : ℕ) (va : VirtualAddress) → w < 4294967296 → va .0 < 4294967296 → InRange (sectionEntry w va)
+pub section-ranged : (w : ℕ) (va : VirtualAddress) → w < 0x100000000 → va .0 < 0x100000000 → InRange (sectionEntry w va)
 section-ranged w va hw hv =
     record {
       size = omega arith;
@@ -19,7 +19,7 @@ section-ranged w va hw hv =
       large = λ s. omega arith;
     }
 
-module _ (domain w : ℕ) (va : VirtualAddress) (hd : domain < 16) (hw : w < 4294967296) (hv : va .0 < 4294967296) where
+module _ (domain w : ℕ) (va : VirtualAddress) (hd : domain < 16) (hw : w < 0x100000000) (hv : va .0 < 0x100000000) where
   pub large-ranged : InRange (largeEntry domain w va)
   large-ranged =
       record {

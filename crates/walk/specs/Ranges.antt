@@ -11,11 +11,11 @@ pub record InRange (e : Entry) : Type 0 where
   pub domain : e .domain < 16
   pub aps : e .aps < 256
   pub vbase : e .vbase % 4096 ≡ 0
-  pub vbase-low : e .vbase < 4294967296
+  pub vbase-low : e .vbase < 0x100000000
   pub pbase : e .pbase % 4096 ≡ 0
-  pub pbase-low : e .pbase < 4294967296
-  pub section : e .size ≡ 0 → e .pbase % 1048576 ≡ 0
-  pub large : e .size ≡ 1 → e .pbase % 65536 ≡ 0
+  pub pbase-low : e .pbase < 0x100000000
+  pub section : e .size ≡ 0 → e .pbase % 0x100000 ≡ 0
+  pub large : e .size ≡ 1 → e .pbase % 0x10000 ≡ 0
 
 -- what a walk finds: a mapping in range, or a fault with a domain in range
 abbrev pub Ranged : Mapping → Type 0

@@ -1,27 +1,22 @@
 -- "Translation, with M set (001, figures 2-1, 2-2)": "the walk reads memory only, never cache or buffer".
 use Prim.Native.Nat.{ℕ, _+_, _*_, _/_, _%_}
 use mathlib.Core.Bool.{true, cond}
-use mathlib.Core.List.{List}
-use lib.Dec.{eqb, leb}
-use lib.ListN.{length}
-use Rattle.values.specs.Tests.{bit}
+use lib.Dec.{eqb}
+use Rattle.values.specs.Bits.{bit}
 use Rattle.values.specs.declared.VirtualAddress.{VirtualAddress}
 use Rattle.values.specs.declared.PhysicalAddress.{PhysicalAddress}
 use Rattle.values.specs.declared.Entry.{Entry}
 use Rattle.values.specs.declared.Status.the-variants.{WalkFirst, WalkSecond, TranslationSection, TranslationPage}
-use Rattle.words.specs.Words.{valueAt}
-use Rattle.walk.specs.declared.Descriptor.{Descriptor}
-use Rattle.walk.specs.declared.Descriptor.the-variants.{Word, Outside}
+use Rattle.bus.specs.Physical.{Physical}
+use Rattle.bus.specs.Reader.{descriptorAt}
+use Rattle.bus.specs.declared.Descriptor.{Descriptor}
+use Rattle.bus.specs.declared.Descriptor.the-variants.{Word, Outside}
 use Rattle.walk.specs.declared.Mapping.{Mapping}
 use Rattle.walk.specs.declared.Mapping.the-variants.{Found, Failed}
 
--- a reader over the lent memory: the descriptor word at an address, or that it lies outside
-unfoldable pub descriptorAt : List ℕ → PhysicalAddress → Descriptor
-descriptorAt memory pa = cond (leb (pa .0 + 4) (length memory)) (Word (valueAt 4 memory (pa .0))) Outside
-
 -- "Level 1 word: table base plus four times VA[31:20]."
 abbrev pub firstAddress : ℕ → VirtualAddress → PhysicalAddress
-firstAddress base va = record { 0 = base + 4 * (va .0 / 1048576) }
+firstAddress base va = record { 0 = base + 4 * (va .0 / 0x100000) }
 
 -- "01 second-level table at [31:10]", "Level 2 word: table plus four times VA[19:12]"
 abbrev pub secondAddress : ℕ → VirtualAddress → PhysicalAddress
@@ -37,8 +32,8 @@ sectionEntry w va =
     record {
       valid = true;
       size = 0;
-      vbase = va .0 / 1048576 * 1048576;
-      pbase = w / 1048576 * 1048576;
+      vbase = va .0 / 0x100000 * 0x100000;
+      pbase = w / 0x100000 * 0x100000;
       domain = domainOf w;
       aps = w / 1024 % 4 * 85;
       cacheable = bit w 3;
@@ -51,8 +46,8 @@ largeEntry domain w va =
     record {
       valid = true;
       size = 1;
-      vbase = va .0 / 65536 * 65536;
-      pbase = w / 65536 * 65536;
+      vbase = va .0 / 0x10000 * 0x10000;
+      pbase = w / 0x10000 * 0x10000;
       domain = domain;
       aps = w / 16 % 256;
       cacheable = bit w 3;
@@ -82,7 +77,7 @@ second domain va (Word w) =
     (Failed TranslationPage domain))
 
 -- the level 1 word: 01 second-level table, 10 section, "00 and 11 translation fault"; "Domain is 0 for 1, 12, 5"
-unfoldable pub first : List ℕ → VirtualAddress → Descriptor → Mapping
+unfoldable pub first : Physical → VirtualAddress → Descriptor → Mapping
 first memory va Outside = Failed WalkFirst 0
 first memory va (Word w) =
     cond (eqb (w % 4) 1) (second (domainOf w) va (descriptorAt memory (secondAddress w va)))
@@ -90,5 +85,5 @@ first memory va (Word w) =
     (Failed TranslationSection 0))
 
 -- the walk of memory for a virtual address, by the table base
-unfoldable pub walk : List ℕ → ℕ → VirtualAddress → Mapping
+unfoldable pub walk : Physical → ℕ → VirtualAddress → Mapping
 walk memory base va = first memory va (descriptorAt memory (firstAddress base va))

@@ -18,7 +18,7 @@ module _ (m : List ℕ) (a : ℕ) where
   unfolding valueAt
   two = omega arith
 
-  pub four : valueAt 4 m a ≡ getD m a 0 + getD m (a + 1) 0 * 256 + getD m (a + 2) 0 * 65536 + getD m (a + 3) 0 * 16777216
+  pub four : valueAt 4 m a ≡ getD m a 0 + getD m (a + 1) 0 * 256 + getD m (a + 2) 0 * 0x10000 + getD m (a + 3) 0 * 0x1000000
   unfolding valueAt
   four =
       let e : a + 1 + 1 ≡ a + 2 = omega arith in
@@ -36,13 +36,13 @@ module _ (m : List ℕ) (a : ℕ) where
     store-two = refl
 
     pub store-four : stored 4 m a v
-        ≡ set (set (set (set m a (v % 256)) (a + 1) (v / 256 % 256)) (a + 2) (v / 65536 % 256)) (a + 3) (v / 16777216 % 256)
+        ≡ set (set (set (set m a (v % 256)) (a + 1) (v / 256 % 256)) (a + 2) (v / 0x10000 % 256)) (a + 3) (v / 0x1000000 % 256)
     unfolding stored
     store-four =
         let e : a + 1 + 1 ≡ a + 2 = omega arith in
         let f : a + 2 + 1 ≡ a + 3 = omega arith in
-        let g : v / 256 / 256 ≡ v / 65536 = omega arith in
-        let h : v / 65536 / 256 ≡ v / 16777216 = omega arith in
+        let g : v / 256 / 256 ≡ v / 0x10000 = omega arith in
+        let h : v / 0x10000 / 256 ≡ v / 0x1000000 = omega arith in
         rw (e, f, g, h)
 
 pub length-stored : (n : ℕ) (m : List ℕ) (a v : ℕ) → length (stored n m a v) ≡ length m

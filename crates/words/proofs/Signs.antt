@@ -15,8 +15,8 @@ module _ (half x : ℕ) (small : half ≤ 2 ^ 31) where
   positive h = rw (lt-ltb x half h) (toZ-pos w32 (omega arith))
 
   -- from the sign bit on it is the complement of what is left up to the largest number
-  pub negative : half ≤ x → x < half + half → toZ w32 (4294967295 - (half + half - 1 - x)) ≡ signedBy half x
+  pub negative : half ≤ x → x < half + half → toZ w32 (0xFFFFFFFF - (half + half - 1 - x)) ≡ signedBy half x
   unfolding signedBy
   negative h l =
-      let e : 4294967295 - (half + half - 1 - x) ≡ 2 ^ 32 - suc (half + half - 1 - x) = omega arith in
+      let e : 0xFFFFFFFF - (half + half - 1 - x) ≡ 2 ^ 32 - suc (half + half - 1 - x) = omega arith in
       rw (le-ltb x half h, e) (toZ-neg w32 (half + half - 1 - x) (omega arith))

@@ -1,8 +1,10 @@
 -- "A signed load answers a signed number, from −128 for a byte up to full words."
 use Prim.Native.Nat.{ℕ, _+_, _-_, _^_, _/_}
-use mathlib.Core.Bool.{Bool, cond}
+use mathlib.Core.Bool.{cond}
 use lib.Dec.{ltb}
 use lib.IntN.{ℤ, pos, negsuc}
+use Rattle.values.specs.declared.Kind.{Kind}
+use Rattle.values.specs.declared.Kind.the-variants.{Load, SignedLoad, Store}
 use Rattle.values.specs.declared.Answer.{Answer}
 use Rattle.values.specs.declared.Answer.the-variants.{Value, Signed}
 
@@ -14,6 +16,8 @@ signedBy half x = cond (ltb x half) (pos x) (negsuc (half + half - 1 - x))
 abbrev pub signedOf : ℕ → ℕ → ℤ
 signedOf width x = signedBy (256 ^ width / 2) x
 
--- what a load of the number v answers
-abbrev pub loadAnswer : Bool → ℕ → ℕ → Answer
-loadAnswer signed width v = cond signed (Signed (signedOf width v)) (Value v)
+-- what an access of a kind answers that loads the number v
+abbrev pub loadAnswer : Kind → ℕ → ℕ → Answer
+loadAnswer Load width v = Value v
+loadAnswer SignedLoad width v = Signed (signedOf width v)
+loadAnswer (Store x) width v = Value v

@@ -28,13 +28,13 @@ pub fn fits_width(width: u32, value: u32) -> bool
         return true;
     }
     if width == 2 {
-        return value < 65536;
+        return value < 0x10000;
     }
     value < 256
 }
 
 // One byte.
-pub fn byte(bytes: &[u8], at: usize) -> u32
+fn byte(bytes: &[u8], at: usize) -> u32
     requires { ⌜ at < length (now bytes) ⌝ }
     ensures { λ r. ⌜ (r ≡ getD (now (bytes .entry)) at 0) × (r < 256) ⌝ }
 {
@@ -42,7 +42,7 @@ pub fn byte(bytes: &[u8], at: usize) -> u32
 }
 
 // A halfword.
-pub fn half(bytes: &[u8], at: usize) -> u32
+fn half(bytes: &[u8], at: usize) -> u32
     requires { ⌜ at + 2 ≤ length (now bytes) ⌝ }
     ensures { λ r. ⌜ Loaded 2 (now (bytes .entry)) at r ⌝ }
 {
@@ -56,8 +56,8 @@ pub fn word(bytes: &[u8], at: usize) -> u32
 {
     byte(bytes, at)
         + byte(bytes, at + 1) * 256
-        + byte(bytes, at + 2) * 65536
-        + byte(bytes, at + 3) * 16777216
+        + byte(bytes, at + 2) * 0x10000
+        + byte(bytes, at + 3) * 0x1000000
 }
 
 // A number of 1, 2 or 4 bytes.
@@ -88,8 +88,8 @@ fn put_word(bytes: &mut [u8], at: usize, value: u32)
 {
     bytes[at] = (value % 256) as u8;
     bytes[at + 1] = (value / 256 % 256) as u8;
-    bytes[at + 2] = (value / 65536 % 256) as u8;
-    bytes[at + 3] = (value / 16777216 % 256) as u8;
+    bytes[at + 2] = (value / 0x10000 % 256) as u8;
+    bytes[at + 3] = (value / 0x1000000 % 256) as u8;
 }
 
 // A number of 1, 2 or 4 bytes takes its place.
@@ -134,22 +134,22 @@ fn signed_byte(x: u32) -> i32
 }
 
 fn signed_half(x: u32) -> i32
-    requires { ⌜ x < 65536 ⌝ }
+    requires { ⌜ x < 0x10000 ⌝ }
     ensures { λ r. ⌜ r ≡ signedOf 2 x ⌝ }
 {
     if x < 32768 {
         x as i32
     } else {
-        !((65535 - x) as i32)
+        !((0xFFFF - x) as i32)
     }
 }
 
 fn signed_word(x: u32) -> i32
     ensures { λ r. ⌜ r ≡ signedOf 4 x ⌝ }
 {
-    if x < 2147483648 {
+    if x < 0x80000000 {
         x as i32
     } else {
-        !((4294967295 - x) as i32)
+        !((0xFFFFFFFF - x) as i32)
     }
 }

@@ -8,8 +8,6 @@ use lib.ListN.{length, length-set, drop, replicate}
 use borrow.Author.Needs.{needs}
 use Rattle.buffer.proofs.close_bytes.Statement.{statement}
 use Rattle.buffer.proofs.close_bytes.Tie as tie
-use Rattle.buffer.proofs.close_bytes.Reads as reads
-use Rattle.buffer.proofs.close_bytes.Lts as lts
 
 abbrev Inv-loop : tie.InvT-loop
 Inv-loop bytes₀ i₀ bytes i = (i ≤ 7) × (length bytes ≡ 8) × Toward (drop 1 bytes₀) bytes₀ bytes i
@@ -42,8 +40,11 @@ loop-less : tie.Need-loop-less Inv-loop μ-loop
 loop-less c = search needs
 
 loop-again : tie.Need-loop-again Inv-loop μ-loop
-loop-again c = let l = c .before .before .loop in
-    (omega arith, simp length-set (l .inv .1), close-step (now (c .before .before .before .args .bytes)) (l .bytes) (l .i) (l .inv .2) _ (c .before .loop-test .taken) (l .inv .1))
+loop-again c = let in-loop = c .before in
+    let at-loop = in-loop .before in
+    let start = at-loop .before in
+    let l = at-loop .loop in
+    (omega arith, simp length-set (l .inv .1), close-step (now (start .args .bytes)) (l .bytes) (l .i) (l .inv .2) _ (in-loop .loop-test .taken) (l .inv .1))
 
 slice-set-from-bytes-2 : tie.Need-slice-set-from-bytes-2 Inv-loop μ-loop
 slice-set-from-bytes-2 c = omega arith
@@ -52,8 +53,10 @@ same-length : tie.Need-same-length Inv-loop μ-loop
 same-length c = search needs
 
 returns : tie.Need-returns Inv-loop μ-loop
-returns c = let l = c .before .loop in
-    close-end (now (c .before .before .args .bytes)) (l .bytes) (l .i) (l .inv .2) (replicate 16 0) (c .loop-test .left) (l .inv .0) (l .inv .1)
+returns c = let at-loop = c .before in
+    let start = at-loop .before in
+    let l = at-loop .loop in
+    close-end (now (start .args .bytes)) (l .bytes) (l .i) (l .inv .2) (replicate 16 0) (c .loop-test .left) (l .inv .0) (l .inv .1)
 
 pub close-bytes-spec : {M : Type 1} → statement M
 close-bytes-spec =

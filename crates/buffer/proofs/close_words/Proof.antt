@@ -8,8 +8,6 @@ use lib.ListN.{length, length-set, drop}
 use borrow.Author.Needs.{needs}
 use Rattle.buffer.proofs.close_words.Statement.{statement}
 use Rattle.buffer.proofs.close_words.Tie as tie
-use Rattle.buffer.proofs.close_words.Reads as reads
-use Rattle.buffer.proofs.close_words.Lts as lts
 
 abbrev Inv-loop : tie.InvT-loop
 Inv-loop words₀ i₀ words i = (i ≤ 7) × (length words ≡ 8) × Toward (drop 1 words₀) words₀ words i
@@ -42,8 +40,11 @@ loop-less : tie.Need-loop-less Inv-loop μ-loop
 loop-less c = search needs
 
 loop-again : tie.Need-loop-again Inv-loop μ-loop
-loop-again c = let l = c .before .before .loop in
-    (omega arith, simp length-set (l .inv .1), close-step (now (c .before .before .before .args .words)) (l .words) (l .i) (l .inv .2) 0 (c .before .loop-test .taken) (l .inv .1))
+loop-again c = let in-loop = c .before in
+    let at-loop = in-loop .before in
+    let start = at-loop .before in
+    let l = at-loop .loop in
+    (omega arith, simp length-set (l .inv .1), close-step (now (start .args .words)) (l .words) (l .i) (l .inv .2) 0 (in-loop .loop-test .taken) (l .inv .1))
 
 slice-write-words-2 : tie.Need-slice-write-words-2 Inv-loop μ-loop
 slice-write-words-2 c = omega arith
@@ -52,8 +53,10 @@ same-length : tie.Need-same-length Inv-loop μ-loop
 same-length c = search needs
 
 returns : tie.Need-returns Inv-loop μ-loop
-returns c = let l = c .before .loop in
-    close-end (now (c .before .before .args .words)) (l .words) (l .i) (l .inv .2) 0 (c .loop-test .left) (l .inv .0) (l .inv .1)
+returns c = let at-loop = c .before in
+    let start = at-loop .before in
+    let l = at-loop .loop in
+    close-end (now (start .args .words)) (l .words) (l .i) (l .inv .2) 0 (c .loop-test .left) (l .inv .0) (l .inv .1)
 
 pub close-words-spec : {M : Type 1} → statement M
 close-words-spec =

@@ -10,9 +10,6 @@ use lib.ListN.{length}
 use borrow.Author.Needs.{needs}
 use Rattle.buffer.proofs.drain.Statement.{statement}
 use Rattle.buffer.proofs.drain.Tie as tie
-use Rattle.buffer.proofs.drain.Reads as reads
-use Rattle.buffer.proofs.drain.Lts as lts
-use Rattle.buffer.proofs.oldest_leaves.Reads as oldest-leaves-reads
 
 abbrev Inv-loop : tie.InvT-loop
 Inv-loop memory₀ words₀ used left₀ n₀ memory words left n = Fits memory words left n × (leaving n (backingOf memory words left n) ≡ leaving used (backingOf memory₀ words₀ left₀ used)) × (length memory ≡ length memory₀) × (length words ≡ length words₀)
@@ -27,7 +24,9 @@ slice-aggregate-oldest-leaves : tie.Need-slice-aggregate-oldest-leaves Inv-loop 
 slice-aggregate-oldest-leaves c = search needs
 
 oldest-leaves-requires : tie.Need-oldest-leaves-requires Inv-loop μ-loop
-oldest-leaves-requires c κs = (c .before .before .before .before .loop .inv .0, c .before .before .before .loop-test .taken)
+oldest-leaves-requires c κs = let in-loop = c .before .before .before in
+    let at-loop = in-loop .before in
+    (at-loop .loop .inv .0, in-loop .loop-test .taken)
 
 sub-n : tie.Need-sub-n Inv-loop μ-loop
 sub-n c = search needs
@@ -36,12 +35,16 @@ loop-less : tie.Need-loop-less Inv-loop μ-loop
 loop-less c = search needs
 
 loop-again : tie.Need-loop-again Inv-loop μ-loop
-loop-again c = let a = c .before .before .before .before .before .before .before .before .before .before .before .before .before .args in
-    let l = c .before .before .before .before .before .before .before .before .before .before .loop in
-    let o = c .before .before .before .before .before .oldest-leaves in
+loop-again c = let after-oldest-leaves = c .before .before .before .before .before in
+    let in-loop = after-oldest-leaves .before .before .before .before in
+    let at-loop = in-loop .before in
+    let start = at-loop .before .before .before in
+    let a = start .args in
+    let l = at-loop .loop in
+    let o = after-oldest-leaves .oldest-leaves in
     let b = backingOf (now (a .memory)) (now (a .words)) (a .bytes) (a .used) in (
       o .ensures .fits,
-      drain-more b (a .used) (l .memory) (l .words) (l .left) (l .n) (c .before .before .before .before .before .before .before .before .before .loop-test .taken) _ (o .ensures .same) (l .inv .1),
+      drain-more b (a .used) (l .memory) (l .words) (l .left) (l .n) (in-loop .loop-test .taken) _ (o .ensures .same) (l .inv .1),
       o .kept .0 ∙ l .inv .2,
       o .kept .1 .0 ∙ l .inv .3,
     )
@@ -54,8 +57,10 @@ same-length-2 c = c .before .loop .inv .3
 
 returns : tie.Need-returns Inv-loop μ-loop
 unfolding drained
-returns c = let a = c .before .before .before .before .args in
-    let l = c .before .loop in
+returns c = let at-loop = c .before in
+    let start = at-loop .before .before .before in
+    let a = start .args in
+    let l = at-loop .loop in
     let b = backingOf (now (a .memory)) (now (a .words)) (a .bytes) (a .used) in
     let z : l .n ≡ 0 = omega (arith, c .loop-test .left) in
     let f : Fits (l .memory) (l .words) (l .left) 0 = subst (λ (k : ℕ). Fits (l .memory) (l .words) (l .left) k) z (l .inv .0) in

@@ -1,4 +1,4 @@
-use Rattle.values.specs.Tests.{any}
+use Rattle.values.specs.Lists.{any}
 use Rattle.buffer.specs.Buffer.{meets, holds}
 use Rattle.buffer.specs.Packing.{slotsOf}
 use Rattle.buffer.proofs.Holding.{hold-hit, hold-on, hold-end}
@@ -11,12 +11,10 @@ use mathlib.Core.List.{List}
 use borrow.Author.Needs.{needs}
 use Rattle.buffer.proofs.holds_access.Statement.{statement}
 use Rattle.buffer.proofs.holds_access.Tie as tie
-use Rattle.buffer.proofs.holds_access.Reads as reads
-use Rattle.buffer.proofs.holds_access.Lts as lts
-use Rattle.buffer.proofs.meets_access.Reads as meets-access-reads
+use Rattle.buffer.specs.Buffer.{bufferFrom}
 
 abbrev Inv-loop : tie.InvT-loop
-Inv-loop words used pa width i₀ i = (i ≤ used) × ((bytes : List (List ℕ)) → length bytes ≡ 8 → any (meets width (pa .0)) (drop i (take used (slotsOf words bytes))) ≡ holds (record { slots = slotsOf words bytes; used = used }) (pa .0) width)
+Inv-loop words used pa width i₀ i = (i ≤ used) × ((bytes : List (List ℕ)) → length bytes ≡ 8 → any (meets width (pa .0)) (drop i (take used (slotsOf words bytes))) ≡ holds (bufferFrom (slotsOf words bytes) used) (pa .0) width)
 
 abbrev μ-loop : tie.MeasureT-loop
 μ-loop words used pa width i₀ i = used - i
@@ -32,12 +30,17 @@ shared-slice-read-meets-access : tie.Need-shared-slice-read-meets-access Inv-loo
 shared-slice-read-meets-access c = search needs
 
 meets-access-requires : tie.Need-meets-access-requires Inv-loop μ-loop
-meets-access-requires c κs = (c .before .before .before .before .pre .2, c .before .before .before .before .pre .3)
+meets-access-requires c κs = let start = c .before .before .before .before in
+    (start .pre .2, start .pre .3)
 
 returns : tie.Need-returns Inv-loop μ-loop
-returns c = let a = c .before .before .before .before .before .before .args in
-    let l = c .before .before .before .before .loop in
-    λ bytes h. sym (hold-hit (a .width) (a .pa .0) (now (a .words)) bytes (a .used) (c .before .before .before .before .before .before .pre .0) h (c .before .before .before .before .before .before .pre .1) (l .i) (c .before .before .before .loop-test .taken) (sym (c .before .meets-access .ensures _) ∙ c .if1 .taken)) ∙ l .inv .1 bytes h
+returns c = let after-meets-access = c .before in
+    let in-loop = after-meets-access .before .before in
+    let at-loop = in-loop .before in
+    let start = at-loop .before .before in
+    let a = start .args in
+    let l = at-loop .loop in
+    λ bytes h. sym (hold-hit (a .width) (a .pa .0) (now (a .words)) bytes (a .used) (start .pre .0) h (start .pre .1) (l .i) (in-loop .loop-test .taken) (sym (after-meets-access .meets-access .ensures _) ∙ c .if1 .taken)) ∙ l .inv .1 bytes h
 
 add-i : tie.Need-add-i Inv-loop μ-loop
 add-i c = search needs
@@ -46,14 +49,20 @@ loop-less : tie.Need-loop-less Inv-loop μ-loop
 loop-less c = search needs
 
 loop-again : tie.Need-loop-again Inv-loop μ-loop
-loop-again c = let a = c .before .before .before .before .before .before .args in
-    let l = c .before .before .before .before .loop in
-    (omega arith, λ bytes h. sym (hold-on (a .width) (a .pa .0) (now (a .words)) bytes (a .used) (c .before .before .before .before .before .before .pre .0) h (c .before .before .before .before .before .before .pre .1) (l .i) (c .before .before .before .loop-test .taken) (sym (c .before .meets-access .ensures _) ∙ c .if1 .left)) ∙ l .inv .1 bytes h)
+loop-again c = let after-meets-access = c .before in
+    let in-loop = after-meets-access .before .before in
+    let at-loop = in-loop .before in
+    let start = at-loop .before .before in
+    let a = start .args in
+    let l = at-loop .loop in
+    (omega arith, λ bytes h. sym (hold-on (a .width) (a .pa .0) (now (a .words)) bytes (a .used) (start .pre .0) h (start .pre .1) (l .i) (in-loop .loop-test .taken) (sym (after-meets-access .meets-access .ensures _) ∙ c .if1 .left)) ∙ l .inv .1 bytes h)
 
 returns-2 : tie.Need-returns-2 Inv-loop μ-loop
-returns-2 c = let a = c .before .before .before .args in
-    let l = c .before .loop in
-    λ bytes h. sym (hold-end (a .width) (a .pa .0) (now (a .words)) bytes (a .used) (c .before .before .before .pre .0) h (c .before .before .before .pre .1) (l .i) (c .loop-test .left)) ∙ l .inv .1 bytes h
+returns-2 c = let at-loop = c .before in
+    let start = at-loop .before .before in
+    let a = start .args in
+    let l = at-loop .loop in
+    λ bytes h. sym (hold-end (a .width) (a .pa .0) (now (a .words)) bytes (a .used) (start .pre .0) h (start .pre .1) (l .i) (c .loop-test .left)) ∙ l .inv .1 bytes h
 
 pub holds-access-spec : {M : Type 1} → statement M
 holds-access-spec =

@@ -1,4 +1,4 @@
-use Rattle.values.specs.Tests.{any}
+use Rattle.values.specs.Lists.{any}
 use Rattle.buffer.specs.Buffer.{meets, holds}
 use Rattle.buffer.specs.Packing.{slotsOf}
 use Rattle.buffer.proofs.Holding.{hold-hit, hold-on, hold-end}
@@ -11,12 +11,10 @@ use mathlib.Core.List.{List}
 use borrow.Author.Needs.{needs}
 use Rattle.buffer.proofs.holds_line.Statement.{statement}
 use Rattle.buffer.proofs.holds_line.Tie as tie
-use Rattle.buffer.proofs.holds_line.Reads as reads
-use Rattle.buffer.proofs.holds_line.Lts as lts
-use Rattle.buffer.proofs.meets_line.Reads as meets-line-reads
+use Rattle.buffer.specs.Buffer.{bufferFrom}
 
 abbrev Inv-loop : tie.InvT-loop
-Inv-loop words used frame i₀ i = (i ≤ used) × ((bytes : List (List ℕ)) → length bytes ≡ 8 → any (meets 32 (frame * 32)) (drop i (take used (slotsOf words bytes))) ≡ holds (record { slots = slotsOf words bytes; used = used }) (frame * 32) 32)
+Inv-loop words used frame i₀ i = (i ≤ used) × ((bytes : List (List ℕ)) → length bytes ≡ 8 → any (meets 32 (frame * 32)) (drop i (take used (slotsOf words bytes))) ≡ holds (bufferFrom (slotsOf words bytes) used) (frame * 32) 32)
 
 abbrev μ-loop : tie.MeasureT-loop
 μ-loop words used frame i₀ i = used - i
@@ -35,9 +33,13 @@ meets-line-requires : tie.Need-meets-line-requires Inv-loop μ-loop
 meets-line-requires c κs = search needs
 
 returns : tie.Need-returns Inv-loop μ-loop
-returns c = let a = c .before .before .before .before .before .before .args in
-    let l = c .before .before .before .before .loop in
-    λ bytes h. sym (hold-hit 32 (a .frame * 32) (now (a .words)) bytes (a .used) (c .before .before .before .before .before .before .pre .0) h (c .before .before .before .before .before .before .pre .1) (l .i) (c .before .before .before .loop-test .taken) (sym (c .before .meets-line .ensures _) ∙ c .if1 .taken)) ∙ l .inv .1 bytes h
+returns c = let after-meets-line = c .before in
+    let in-loop = after-meets-line .before .before in
+    let at-loop = in-loop .before in
+    let start = at-loop .before .before in
+    let a = start .args in
+    let l = at-loop .loop in
+    λ bytes h. sym (hold-hit 32 (a .frame * 32) (now (a .words)) bytes (a .used) (start .pre .0) h (start .pre .1) (l .i) (in-loop .loop-test .taken) (sym (after-meets-line .meets-line .ensures _) ∙ c .if1 .taken)) ∙ l .inv .1 bytes h
 
 add-i : tie.Need-add-i Inv-loop μ-loop
 add-i c = search needs
@@ -46,14 +48,20 @@ loop-less : tie.Need-loop-less Inv-loop μ-loop
 loop-less c = search needs
 
 loop-again : tie.Need-loop-again Inv-loop μ-loop
-loop-again c = let a = c .before .before .before .before .before .before .args in
-    let l = c .before .before .before .before .loop in
-    (omega arith, λ bytes h. sym (hold-on 32 (a .frame * 32) (now (a .words)) bytes (a .used) (c .before .before .before .before .before .before .pre .0) h (c .before .before .before .before .before .before .pre .1) (l .i) (c .before .before .before .loop-test .taken) (sym (c .before .meets-line .ensures _) ∙ c .if1 .left)) ∙ l .inv .1 bytes h)
+loop-again c = let after-meets-line = c .before in
+    let in-loop = after-meets-line .before .before in
+    let at-loop = in-loop .before in
+    let start = at-loop .before .before in
+    let a = start .args in
+    let l = at-loop .loop in
+    (omega arith, λ bytes h. sym (hold-on 32 (a .frame * 32) (now (a .words)) bytes (a .used) (start .pre .0) h (start .pre .1) (l .i) (in-loop .loop-test .taken) (sym (after-meets-line .meets-line .ensures _) ∙ c .if1 .left)) ∙ l .inv .1 bytes h)
 
 returns-2 : tie.Need-returns-2 Inv-loop μ-loop
-returns-2 c = let a = c .before .before .before .args in
-    let l = c .before .loop in
-    λ bytes h. sym (hold-end 32 (a .frame * 32) (now (a .words)) bytes (a .used) (c .before .before .before .pre .0) h (c .before .before .before .pre .1) (l .i) (c .loop-test .left)) ∙ l .inv .1 bytes h
+returns-2 c = let at-loop = c .before in
+    let start = at-loop .before .before in
+    let a = start .args in
+    let l = at-loop .loop in
+    λ bytes h. sym (hold-end 32 (a .frame * 32) (now (a .words)) bytes (a .used) (start .pre .0) h (start .pre .1) (l .i) (c .loop-test .left)) ∙ l .inv .1 bytes h
 
 pub holds-line-spec : {M : Type 1} → statement M
 holds-line-spec =

@@ -2,8 +2,6 @@ use borrow.Author.Tests.{ne-eqb}
 use borrow.Author.Needs.{needs}
 use Rattle.buffer.proofs.lay_one.Statement.{statement}
 use Rattle.buffer.proofs.lay_one.Tie as tie
-use Rattle.buffer.proofs.lay_one.Reads as reads
-use Rattle.buffer.proofs.lay_one.Lts as lts
 
 slice-write-memory : tie.Need-slice-write-memory
 slice-write-memory c = search needs

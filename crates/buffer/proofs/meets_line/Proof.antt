@@ -7,8 +7,6 @@ use Prim.Native.Nat.{ℕ, _%_}
 use lib.Dec.{eqb}
 use Rattle.buffer.proofs.meets_line.Statement.{statement}
 use Rattle.buffer.proofs.meets_line.Tie as tie
-use Rattle.buffer.proofs.meets_line.Reads as reads
-use Rattle.buffer.proofs.meets_line.Lts as lts
 
 returns : tie.Need-returns
 returns c = let a = c .before .args in
@@ -16,7 +14,7 @@ returns c = let a = c .before .args in
 
 returns-2 : tie.Need-returns-2
 returns-2 c = let a = c .before .args in
-    let m : a .w % 4294967296 % 65536 ≡ a .w % 65536 = omega arith in
+    let m : a .w % 0x100000000 % 0x10000 ≡ a .w % 0x10000 = omega arith in
     λ b. sym (line-here (slotOf (a .w) b) (a .frame) (omega (arith, c .if1 .left)) ∙ ap (λ (x : ℕ). not (eqb x 0)) m)
 
 pub meets-line-spec : {M : Type 1} → statement M

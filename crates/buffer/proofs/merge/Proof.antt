@@ -5,9 +5,6 @@ use mathlib.Core.List.{List}
 use borrow.Author.Needs.{needs}
 use Rattle.buffer.proofs.merge.Statement.{statement}
 use Rattle.buffer.proofs.merge.Tie as tie
-use Rattle.buffer.proofs.merge.Reads as reads
-use Rattle.buffer.proofs.merge.Lts as lts
-use Rattle.buffer.proofs.with_store.Reads as with-store-reads
 
 mul-entry : tie.Need-mul-entry
 mul-entry c = search needs

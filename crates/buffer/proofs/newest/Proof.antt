@@ -10,8 +10,6 @@ use mathlib.Core.List.{List}
 use borrow.Author.Needs.{needs}
 use Rattle.buffer.proofs.newest.Statement.{statement}
 use Rattle.buffer.proofs.newest.Tie as tie
-use Rattle.buffer.proofs.newest.Reads as reads
-use Rattle.buffer.proofs.newest.Lts as lts
 
 abbrev Inv-loop : tie.InvT-loop
 Inv-loop words used block n₀ n = (n ≤ used) × ((bytes : List (List ℕ)) → length bytes ≡ 8 → newestOf (slotsOf words bytes) block n ≡ newestOf (slotsOf words bytes) block used)
@@ -41,18 +39,24 @@ loop-less : tie.Need-loop-less Inv-loop μ-loop
 loop-less c = search needs
 
 loop-again : tie.Need-loop-again Inv-loop μ-loop
-loop-again c = let a = c .before .before .before .before .args in
-    let l = c .before .before .before .loop in
+loop-again c = let at-loop = c .before .before .before in
+    let start = at-loop .before in
+    let a = start .args in
+    let l = at-loop .loop in
     (omega arith, λ bytes h. sym (newest-on (now (a .words)) bytes (omega arith) (a .block) (l .n) (omega arith) (c .if2 .left)) ∙ l .inv .1 bytes h)
 
 returns : tie.Need-returns Inv-loop μ-loop
-returns c = let a = c .before .before .args in
-    let l = c .before .loop in
+returns c = let at-loop = c .before in
+    let start = at-loop .before in
+    let a = start .args in
+    let l = at-loop .loop in
     λ bytes h. sym (newest-none (slotsOf (now (a .words)) bytes) (a .block) (l .n) (c .if1 .taken)) ∙ l .inv .1 bytes h
 
 returns-2 : tie.Need-returns-2 Inv-loop μ-loop
-returns-2 c = let a = c .before .before .before .before .args in
-    let l = c .before .before .before .loop in
+returns-2 c = let at-loop = c .before .before .before in
+    let start = at-loop .before in
+    let a = start .args in
+    let l = at-loop .loop in
     λ bytes h. sym (newest-hit (now (a .words)) bytes (omega arith) (a .block) (l .n) (omega arith) (c .if2 .taken)) ∙ l .inv .1 bytes h
 
 pub newest-spec : {M : Type 1} → statement M

@@ -8,11 +8,6 @@ use mathlib.Core.List.{[]}
 use borrow.Author.Needs.{needs}
 use Rattle.buffer.proofs.oldest_leaves.Statement.{statement}
 use Rattle.buffer.proofs.oldest_leaves.Tie as tie
-use Rattle.buffer.proofs.oldest_leaves.Reads as reads
-use Rattle.buffer.proofs.oldest_leaves.Lts as lts
-use Rattle.buffer.proofs.close_bytes.Reads as close-bytes-reads
-use Rattle.buffer.proofs.close_words.Reads as close-words-reads
-use Rattle.buffer.proofs.lay.Reads as lay-reads
 
 slice-read-w : tie.Need-slice-read-w
 slice-read-w c = search needs
@@ -24,10 +19,12 @@ cast-mask : tie.Need-cast-mask
 cast-mask c = search needs
 
 mul-lay : tie.Need-mul-lay
-mul-lay c = omega (arith, c .before .before .before .before .before .pre .0 .inside 0 (c .before .before .before .before .before .pre .1))
+mul-lay c = let start = c .before .before .before .before .before in
+    omega (arith, start .pre .0 .inside 0 (start .pre .1))
 
 lay-requires : tie.Need-lay-requires
-lay-requires c κs = c .before .before .before .before .before .pre .0 .inside 0 (c .before .before .before .before .before .pre .1)
+lay-requires c κs = let start = c .before .before .before .before .before in
+    start .pre .0 .inside 0 (start .pre .1)
 
 close-words-requires : tie.Need-close-words-requires
 close-words-requires c κs = search needs
@@ -45,11 +42,15 @@ same-length-3 : tie.Need-same-length-3
 same-length-3 c = search needs
 
 returns : tie.Need-returns
-returns c = let a = c .before .before .before .before .before .before .before .before .before .before .before .before .before .before .before .args in
-    let f = c .before .before .before .before .before .before .before .before .before .before .before .before .before .before .before .pre .0 in
+returns c = let after-close-bytes = c .before in
+    let after-close-words = after-close-bytes .before .before .before .before in
+    let after-lay = after-close-words .before .before .before .before in
+    let start = after-lay .before .before .before .before .before .before in
+    let a = start .args in
+    let f = start .pre .0 in
     let bs = now (a .bytes) in
-    rw (c .before .before .before .before .before .close-words .ensures, c .before .close-bytes .ensures)
-    (oldest-left (now (a .memory)) (now (a .words)) bs (a .used) f (c .before .before .before .before .before .before .before .before .before .before .before .before .before .before .before .pre .1) (c .before .before .before .before .before .before .before .before .before .lay .last .0) (getD (now (a .words)) 0 0) (getD bs 0 []) refl (any-default bs 0 [] (replicate 16 0) (omega (arith, f .bytes-long))) (c .before .before .before .before .before .before .before .before .before .lay .ensures))
+    rw (after-close-words .close-words .ensures, after-close-bytes .close-bytes .ensures)
+    (oldest-left (now (a .memory)) (now (a .words)) bs (a .used) f (start .pre .1) (after-lay .lay .last .0) (getD (now (a .words)) 0 0) (getD bs 0 []) refl (any-default bs 0 [] (replicate 16 0) (omega (arith, f .bytes-long))) (after-lay .lay .ensures))
 
 pub oldest-leaves-spec : {M : Type 1} → statement M
 oldest-leaves-spec =

@@ -3,9 +3,6 @@ use denote.Ref.{now}
 use borrow.Author.Needs.{needs}
 use Rattle.buffer.proofs.push_half.Statement.{statement}
 use Rattle.buffer.proofs.push_half.Tie as tie
-use Rattle.buffer.proofs.push_half.Reads as reads
-use Rattle.buffer.proofs.push_half.Lts as lts
-use Rattle.buffer.proofs.push.Reads as push-reads
 
 mul-push : tie.Need-mul-push
 mul-push c = search needs
@@ -26,8 +23,10 @@ same-length-3 : tie.Need-same-length-3
 same-length-3 c = search needs
 
 returns : tie.Need-returns
-returns c = let a = c .before .before .before .before .before .before .before .before .before .before .before .args in
-    half-left (now (a .memory)) (now (a .words)) (now (a .bytes)) (a .used) (a .block) (a .half) _ _ _ _ (c .before .before .before .before .before .push .ensures)
+returns c = let after-push = c .before .before .before .before .before in
+    let start = after-push .before .before .before .before .before .before in
+    let a = start .args in
+    half-left (now (a .memory)) (now (a .words)) (now (a .bytes)) (a .used) (a .block) (a .half) _ _ _ _ (after-push .push .ensures)
 
 pub push-half-spec : {M : Type 1} → statement M
 push-half-spec =

@@ -4,10 +4,6 @@ use denote.Ref.{now}
 use borrow.Author.Needs.{needs}
 use Rattle.buffer.proofs.ready_access.Statement.{statement}
 use Rattle.buffer.proofs.ready_access.Tie as tie
-use Rattle.buffer.proofs.ready_access.Reads as reads
-use Rattle.buffer.proofs.ready_access.Lts as lts
-use Rattle.buffer.proofs.drain.Reads as drain-reads
-use Rattle.buffer.proofs.holds_access.Reads as holds-access-reads
 
 holds-access-requires : tie.Need-holds-access-requires
 holds-access-requires c κs = search needs
@@ -22,17 +18,23 @@ same-length-2 : tie.Need-same-length-2
 same-length-2 c = search needs
 
 returns : tie.Need-returns
-returns c = let a = c .before .before .before .before .before .before .before .before .before .before .before .before .before .args in
-    let h = sym (c .before .before .before .before .before .before .before .before .before .holds-access .ensures (now (a .bytes)) (c .before .before .before .before .before .before .before .before .before .before .before .before .before .pre .0 .bytes-long)) ∙ c .before .before .before .before .before .before .before .before .if1 .taken in
-    ready-drained (now (a .memory)) (now (a .words)) (now (a .bytes)) (a .used) (a .pa .0) (a .width) h _ _ _ _ (c .before .before .before .before .drain .ensures)
+returns c = let after-drain = c .before .before .before .before in
+    let then1 = after-drain .before .before .before .before in
+    let after-holds-access = then1 .before in
+    let start = after-holds-access .before .before .before .before in
+    let a = start .args in
+    let h = sym (after-holds-access .holds-access .ensures (now (a .bytes)) (start .pre .0 .bytes-long)) ∙ then1 .if1 .taken in
+    ready-drained (now (a .memory)) (now (a .words)) (now (a .bytes)) (a .used) (a .pa .0) (a .width) h _ _ _ _ (after-drain .drain .ensures)
 
 same-length-3 : tie.Need-same-length-3
 same-length-3 c = search needs
 
 returns-2 : tie.Need-returns-2
-returns-2 c = let a = c .before .before .before .before .before .args in
-    let h = sym (c .before .holds-access .ensures (now (a .bytes)) (c .before .before .before .before .before .pre .0 .bytes-long)) ∙ c .if1 .left in
-    ready-kept (now (a .memory)) (now (a .words)) (now (a .bytes)) (a .used) (a .pa .0) (a .width) h (c .before .before .before .before .before .pre .0)
+returns-2 c = let after-holds-access = c .before in
+    let start = after-holds-access .before .before .before .before in
+    let a = start .args in
+    let h = sym (after-holds-access .holds-access .ensures (now (a .bytes)) (start .pre .0 .bytes-long)) ∙ c .if1 .left in
+    ready-kept (now (a .memory)) (now (a .words)) (now (a .bytes)) (a .used) (a .pa .0) (a .width) h (start .pre .0)
 
 pub ready-access-spec : {M : Type 1} → statement M
 ready-access-spec =

@@ -5,10 +5,6 @@ use Prim.Native.Nat.{_*_}
 use borrow.Author.Needs.{needs}
 use Rattle.buffer.proofs.ready_line.Statement.{statement}
 use Rattle.buffer.proofs.ready_line.Tie as tie
-use Rattle.buffer.proofs.ready_line.Reads as reads
-use Rattle.buffer.proofs.ready_line.Lts as lts
-use Rattle.buffer.proofs.drain.Reads as drain-reads
-use Rattle.buffer.proofs.holds_line.Reads as holds-line-reads
 
 holds-line-requires : tie.Need-holds-line-requires
 holds-line-requires c κs = search needs
@@ -23,17 +19,23 @@ same-length-2 : tie.Need-same-length-2
 same-length-2 c = search needs
 
 returns : tie.Need-returns
-returns c = let a = c .before .before .before .before .before .before .before .before .before .before .before .before .before .args in
-    let h = sym (c .before .before .before .before .before .before .before .before .before .holds-line .ensures (now (a .bytes)) (c .before .before .before .before .before .before .before .before .before .before .before .before .before .pre .bytes-long)) ∙ c .before .before .before .before .before .before .before .before .if1 .taken in
-    ready-drained (now (a .memory)) (now (a .words)) (now (a .bytes)) (a .used) (a .frame * 32) 32 h _ _ _ _ (c .before .before .before .before .drain .ensures)
+returns c = let after-drain = c .before .before .before .before in
+    let then1 = after-drain .before .before .before .before in
+    let after-holds-line = then1 .before in
+    let start = after-holds-line .before .before .before .before in
+    let a = start .args in
+    let h = sym (after-holds-line .holds-line .ensures (now (a .bytes)) (start .pre .bytes-long)) ∙ then1 .if1 .taken in
+    ready-drained (now (a .memory)) (now (a .words)) (now (a .bytes)) (a .used) (a .frame * 32) 32 h _ _ _ _ (after-drain .drain .ensures)
 
 same-length-3 : tie.Need-same-length-3
 same-length-3 c = search needs
 
 returns-2 : tie.Need-returns-2
-returns-2 c = let a = c .before .before .before .before .before .args in
-    let h = sym (c .before .holds-line .ensures (now (a .bytes)) (c .before .before .before .before .before .pre .bytes-long)) ∙ c .if1 .left in
-    ready-kept (now (a .memory)) (now (a .words)) (now (a .bytes)) (a .used) (a .frame * 32) 32 h (c .before .before .before .before .before .pre)
+returns-2 c = let after-holds-line = c .before in
+    let start = after-holds-line .before .before .before .before in
+    let a = start .args in
+    let h = sym (after-holds-line .holds-line .ensures (now (a .bytes)) (start .pre .bytes-long)) ∙ c .if1 .left in
+    ready-kept (now (a .memory)) (now (a .words)) (now (a .bytes)) (a .used) (a .frame * 32) 32 h (start .pre)
 
 pub ready-line-spec : {M : Type 1} → statement M
 ready-line-spec =

@@ -7,13 +7,6 @@ use Prim.Native.Nat.{_/_}
 use borrow.Author.Needs.{needs}
 use Rattle.buffer.proofs.store.Statement.{statement}
 use Rattle.buffer.proofs.store.Tie as tie
-use Rattle.buffer.proofs.store.Reads as reads
-use Rattle.buffer.proofs.store.Lts as lts
-use Rattle.buffer.proofs.join.Reads as join-reads
-use Rattle.buffer.proofs.mask_of.Reads as mask-of-reads
-use Rattle.buffer.proofs.newest.Reads as newest-reads
-use Rattle.buffer.proofs.push.Reads as push-reads
-use Rattle.buffer.proofs.with_store.Reads as with-store-reads
 
 mask-of-requires : tie.Need-mask-of-requires
 mask-of-requires c κs = search needs
@@ -28,10 +21,13 @@ cast-join : tie.Need-cast-join
 cast-join c = search needs
 
 join-requires : tie.Need-join-requires
-join-requires c κs = let a = c .before .before .before .before .before .before .before .before .before .before .before .before .args in
-    let f = c .before .before .before .before .before .before .before .before .before .before .before .before .pre .0 in
-    let e = sym (c .before .before .before .before .before .newest .ensures (now (a .bytes)) (f .bytes-long)) ∙ c .before .before .before .found .given .1 in
-    (f .words-long, omega (arith, newest-below (slotsOf (now (a .words)) (now (a .bytes))) (a .pa .0 / 16) (a .used) (c .before .before .before .found .given .0 .0) e, f .used-low), c .before .before .before .before .before .before .before .before .before .before .before .before .pre .1 .width-is, c .before .before .before .before .before .before .before .before .before .before .before .before .pre .1 .in-block)
+join-requires c κs = let after-found = c .before .before .before in
+    let after-newest = after-found .before .before in
+    let start = after-newest .before .before .before .before .before .before .before in
+    let a = start .args in
+    let f = start .pre .0 in
+    let e = sym (after-newest .newest .ensures (now (a .bytes)) (f .bytes-long)) ∙ after-found .found .given .1 in
+    (f .words-long, omega (arith, newest-below (slotsOf (now (a .words)) (now (a .bytes))) (a .pa .0 / 16) (a .used) (after-found .found .given .0 .0) e, f .used-low), start .pre .1 .width-is, start .pre .1 .in-block)
 
 enum-told : tie.Need-enum-told
 enum-told c = search needs
@@ -52,20 +48,29 @@ add-push : tie.Need-add-push
 add-push c = search needs
 
 push-requires : tie.Need-push-requires
-push-requires c κs = let a = c .before .before .before .before .before .before .before .before .before .before .before .before .before .args in
-    let f = c .before .before .before .before .before .before .before .before .before .before .before .before .before .pre .0 in
-    let e = sym (c .before .before .before .before .before .before .newest .ensures (now (a .bytes)) (f .bytes-long)) ∙ c .before .before .before .before .enum-told .given .1 in
-    (f, new-inside (now (a .memory)) (now (a .words)) (now (a .bytes)) (a .used) f (a .pa) (a .width) (a .value) (c .before .before .before .before .before .before .before .before .before .before .before .before .before .pre .1) e (c .before .before .before .before .before .before .before .before .mask-of .result) (c .before .before .before .before .before .before .before .before .mask-of .ensures .0) (c .before .before .before .before .before .before .before .before .mask-of .ensures .1))
+push-requires c κs = let after-enum-told = c .before .before .before .before in
+    let after-newest = after-enum-told .before .before in
+    let after-mask-of = after-newest .before .before in
+    let start = after-mask-of .before .before .before .before .before in
+    let a = start .args in
+    let f = start .pre .0 in
+    let e = sym (after-newest .newest .ensures (now (a .bytes)) (f .bytes-long)) ∙ after-enum-told .enum-told .given .1 in
+    (f, new-inside (now (a .memory)) (now (a .words)) (now (a .bytes)) (a .used) f (a .pa) (a .width) (a .value) (start .pre .1) e (after-mask-of .mask-of .result) (after-mask-of .mask-of .ensures .0) (after-mask-of .mask-of .ensures .1))
 
 same-length : tie.Need-same-length
 same-length c = search needs
 
 returns : tie.Need-returns
-returns c = let a = c .before .before .before .before .before .before .before .before .before .before .before .before .before .before .before .args in
-    let f = c .before .before .before .before .before .before .before .before .before .before .before .before .before .before .before .pre .0 in
-    let e = sym (c .before .before .before .before .before .before .before .before .newest .ensures (now (a .bytes)) (f .bytes-long)) ∙ c .before .before .before .before .before .before .found .given .1 in
-    rw (c .before .before .join .ensures .0, c .before .before .join .ensures .1)
-    (joined-left (now (a .memory)) (now (a .words)) (now (a .bytes)) (a .used) f (a .pa) (a .width) (a .value) (c .before .before .before .before .before .before .before .before .before .before .before .before .before .before .before .pre .1) (c .before .before .before .before .before .before .found .given .0 .0) e (c .before .before .before .before .before .before .before .before .before .before .mask-of .result) (c .before .before .before .before .before .before .before .before .before .before .mask-of .ensures .0) (c .before .before .before .before .before .before .before .before .before .before .mask-of .ensures .1))
+returns c = let after-join = c .before .before in
+    let after-found = after-join .before .before .before .before in
+    let after-newest = after-found .before .before in
+    let after-mask-of = after-newest .before .before in
+    let start = after-mask-of .before .before .before .before .before in
+    let a = start .args in
+    let f = start .pre .0 in
+    let e = sym (after-newest .newest .ensures (now (a .bytes)) (f .bytes-long)) ∙ after-found .found .given .1 in
+    rw (after-join .join .ensures .0, after-join .join .ensures .1)
+    (joined-left (now (a .memory)) (now (a .words)) (now (a .bytes)) (a .used) f (a .pa) (a .width) (a .value) (start .pre .1) (after-found .found .given .0 .0) e (after-mask-of .mask-of .result) (after-mask-of .mask-of .ensures .0) (after-mask-of .mask-of .ensures .1))
 
 same-length-2 : tie.Need-same-length-2
 same-length-2 c = search needs
@@ -74,10 +79,16 @@ same-length-3 : tie.Need-same-length-3
 same-length-3 c = search needs
 
 returns-2 : tie.Need-returns-2
-returns-2 c = let a = c .before .before .before .before .before .before .before .before .before .before .before .before .before .before .before .before .before .before .args in
-    let f = c .before .before .before .before .before .before .before .before .before .before .before .before .before .before .before .before .before .before .pre .0 in
-    let e = sym (c .before .before .before .before .before .before .before .before .before .before .before .newest .ensures (now (a .bytes)) (f .bytes-long)) ∙ c .before .before .before .before .before .before .before .before .before .enum-told .given .1 in
-    new-left (now (a .memory)) (now (a .words)) (now (a .bytes)) (a .used) f (a .pa) (a .width) (a .value) (c .before .before .before .before .before .before .before .before .before .before .before .before .before .before .before .before .before .before .pre .1) e (c .before .before .before .before .before .before .before .before .before .before .before .before .before .mask-of .result) (c .before .before .before .before .before .before .before .before .before .before .before .before .before .mask-of .ensures .0) (c .before .before .before .before .before .before .before .before .before .before .before .before .before .mask-of .ensures .1) _ _ _ _ (c .before .before .before .before .before .before .before .before .with-store .result) (c .before .before .before .before .before .before .before .before .with-store .ensures) (c .before .before .before .before .push .ensures)
+returns-2 c = let after-push = c .before .before .before .before in
+    let after-with-store = after-push .before .before .before .before in
+    let after-enum-told = after-with-store .before in
+    let after-newest = after-enum-told .before .before in
+    let after-mask-of = after-newest .before .before in
+    let start = after-mask-of .before .before .before .before .before in
+    let a = start .args in
+    let f = start .pre .0 in
+    let e = sym (after-newest .newest .ensures (now (a .bytes)) (f .bytes-long)) ∙ after-enum-told .enum-told .given .1 in
+    new-left (now (a .memory)) (now (a .words)) (now (a .bytes)) (a .used) f (a .pa) (a .width) (a .value) (start .pre .1) e (after-mask-of .mask-of .result) (after-mask-of .mask-of .ensures .0) (after-mask-of .mask-of .ensures .1) _ _ _ _ (after-with-store .with-store .result) (after-with-store .with-store .ensures) (after-push .push .ensures)
 
 pub store-spec : {M : Type 1} → statement M
 store-spec =

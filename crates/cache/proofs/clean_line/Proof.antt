@@ -4,12 +4,6 @@ use denote.Ref.{now}
 use borrow.Author.Needs.{needs}
 use Rattle.cache.proofs.clean_line.Statement.{statement}
 use Rattle.cache.proofs.clean_line.Tie as tie
-use Rattle.cache.proofs.clean_line.Reads as reads
-use Rattle.cache.proofs.clean_line.Lts as lts
-use Rattle.cache.proofs.cleaned_word.Reads as cleaned-word-reads
-use Rattle.cache.proofs.dirty_halves.Reads as dirty-halves-reads
-use Rattle.cache.proofs.line_of.Reads as line-of-reads
-use Rattle.cache.proofs.send_halves.Reads as send-halves-reads
 
 mul-w : tie.Need-mul-w
 mul-w c = search needs
@@ -24,8 +18,10 @@ mul-send-halves : tie.Need-mul-send-halves
 mul-send-halves c = search needs
 
 send-halves-requires : tie.Need-send-halves-requires
-send-halves-requires c κs = let k = c .before .before .before .before .before .before .before .before .before .pre .1 in
-    (c .before .before .before .before .before .before .before .before .before .pre .0, rw (c .before .before .before .line-of .ensures) (k .inside), k .short, omega (arith, k .low, k .store-long))
+send-halves-requires c κs = let after-line-of = c .before .before .before in
+    let start = after-line-of .before .before .before .before .before .before in
+    let k = start .pre .1 in
+    (start .pre .0, rw (after-line-of .line-of .ensures) (k .inside), k .short, omega (arith, k .low, k .store-long))
 
 cleaned-word-requires : tie.Need-cleaned-word-requires
 cleaned-word-requires c κs = search needs
@@ -52,8 +48,12 @@ same-length-4 : tie.Need-same-length-4
 same-length-4 c = search needs
 
 returns : tie.Need-returns
-returns c = let a = c .before .before .before .before .before .before .before .before .before .before .before .before .before .before .before .before .before .args in
-    λ ps. clean-left (now (a .memory)) (now (a .words)) (now (a .bytes)) (a .used) (now (a .lines)) ps (now (a .store)) (a .i) (c .before .before .before .before .before .before .before .before .before .before .before .line-of .result) (c .before .before .before .before .before .before .before .before .before .before .before .line-of .ensures) _ _ _ _ (c .before .before .before .before .before .before .before .send-halves .ensures) (c .before .cleaned-word .result) (c .dirty-halves .result) (c .before .cleaned-word .ensures) (c .dirty-halves .ensures)
+returns c = let after-cleaned-word = c .before in
+    let after-send-halves = after-cleaned-word .before .before .before .before .before .before in
+    let after-line-of = after-send-halves .before .before .before .before in
+    let start = after-line-of .before .before .before .before .before .before in
+    let a = start .args in
+    λ ps. clean-left (now (a .memory)) (now (a .words)) (now (a .bytes)) (a .used) (now (a .lines)) ps (now (a .store)) (a .i) (after-line-of .line-of .result) (after-line-of .line-of .ensures) _ _ _ _ (after-send-halves .send-halves .ensures) (after-cleaned-word .cleaned-word .result) (c .dirty-halves .result) (after-cleaned-word .cleaned-word .ensures) (c .dirty-halves .ensures)
 
 pub clean-line-spec : {M : Type 1} → statement M
 clean-line-spec =

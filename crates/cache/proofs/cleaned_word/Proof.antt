@@ -2,8 +2,6 @@ use Rattle.cache.proofs.Lines.{clean-word}
 use borrow.Author.Needs.{needs}
 use Rattle.cache.proofs.cleaned_word.Statement.{statement}
 use Rattle.cache.proofs.cleaned_word.Tie as tie
-use Rattle.cache.proofs.cleaned_word.Reads as reads
-use Rattle.cache.proofs.cleaned_word.Lts as lts
 
 mul-result : tie.Need-mul-result
 mul-result c = search needs

@@ -1,6 +1,5 @@
 use Rattle.values.specs.declared.Line.{Line}
 use Rattle.values.proofs.Maps.{map-set}
-use Rattle.cache.specs.Dcache as spec
 use Rattle.cache.specs.Packing.{lineOf, linesOf}
 use Rattle.cache.proofs.Lines.{line-zero}
 use mathlib.Core.Path.{_∙_, ap}
@@ -9,8 +8,6 @@ use lib.ListN.{set}
 use borrow.Author.Needs.{needs}
 use Rattle.cache.proofs.empty_line.Statement.{statement}
 use Rattle.cache.proofs.empty_line.Tie as tie
-use Rattle.cache.proofs.empty_line.Reads as reads
-use Rattle.cache.proofs.empty_line.Lts as lts
 
 mul-lines : tie.Need-mul-lines
 mul-lines c = search needs

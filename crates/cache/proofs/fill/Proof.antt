@@ -7,13 +7,6 @@ use lib.ListN.{getD}
 use borrow.Author.Needs.{needs}
 use Rattle.cache.proofs.fill.Statement.{statement}
 use Rattle.cache.proofs.fill.Tie as tie
-use Rattle.cache.proofs.fill.Reads as reads
-use Rattle.cache.proofs.fill.Lts as lts
-use Rattle.cache.proofs.dirty_halves.Reads as dirty-halves-reads
-use Rattle.cache.proofs.give_way.Reads as give-way-reads
-use Rattle.cache.proofs.line_of.Reads as line-of-reads
-use Rattle.cache.proofs.line_word.Reads as line-word-reads
-use Rattle.cache.proofs.read_line.Reads as read-line-reads
 
 cast-s : tie.Need-cast-s
 cast-s c = search needs
@@ -46,8 +39,10 @@ mul-give-way : tie.Need-mul-give-way
 mul-give-way c = search needs
 
 give-way-requires : tie.Need-give-way-requires
-give-way-requires c κs = let k = c .before .before .before .before .before .before .before .before .before .before .before .before .before .before .pre .1 in
-    (c .before .before .before .before .before .before .before .before .before .before .before .before .before .before .pre .0, rw (c .before .before .before .before .before .line-of .ensures) (k .victim-inside), k .short, omega (arith, k .pointer, k .store-long))
+give-way-requires c κs = let after-line-of = c .before .before .before .before .before in
+    let start = after-line-of .before .before .before .before .before .before .before .before .before in
+    let k = start .pre .1 in
+    (start .pre .0, rw (after-line-of .line-of .ensures) (k .victim-inside), k .short, omega (arith, k .pointer, k .store-long))
 
 add-pointers : tie.Need-add-pointers
 add-pointers c = search needs
@@ -98,11 +93,16 @@ same-length-5 : tie.Need-same-length-5
 same-length-5 c = search needs
 
 returns : tie.Need-returns
-returns c = let a = c .before .before .before .before .before .before .before .before .before .before .before .before .before .before .before .before .before .before .before .before .before .before .before .before .before .before .before .args in
+returns c = let after-read-line = c .before .before .before in
+    let after-line-word = after-read-line .before .before .before in
+    let after-give-way = after-line-word .before .before .before .before .before .before in
+    let after-line-of = after-give-way .before .before .before .before .before .before in
+    let start = after-line-of .before .before .before .before .before .before .before .before .before in
+    let a = start .args in
     let ps = now (a .pointers) in
     let i = a .va .0 / 32 % 16 * 32 + getD ps (a .va .0 / 32 % 16) 0 in
-    rw (c .before .before .before .read-line .ensures)
-    (fill-left (now (a .memory)) (now (a .words)) (now (a .bytes)) (a .used) (now (a .lines)) ps (now (a .store)) (a .va) (a .pa) i refl (c .before .before .before .before .before .before .before .before .before .before .before .before .before .before .before .before .before .before .line-of .result) (c .before .before .before .before .before .before .before .before .before .before .before .before .before .before .before .before .before .before .line-of .ensures) _ refl _ _ _ _ (c .before .before .before .before .before .before .before .before .before .before .before .before .give-way .ensures) (c .before .before .before .before .before .before .line-word .result) (c .dirty-halves .result) (c .before .before .before .before .before .before .line-word .ensures) (c .dirty-halves .ensures))
+    rw (after-read-line .read-line .ensures)
+    (fill-left (now (a .memory)) (now (a .words)) (now (a .bytes)) (a .used) (now (a .lines)) ps (now (a .store)) (a .va) (a .pa) i refl (after-line-of .line-of .result) (after-line-of .line-of .ensures) _ refl _ _ _ _ (after-give-way .give-way .ensures) (after-line-word .line-word .result) (c .dirty-halves .result) (after-line-word .line-word .ensures) (c .dirty-halves .ensures))
 
 pub fill-spec : {M : Type 1} → statement M
 fill-spec =

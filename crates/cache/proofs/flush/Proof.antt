@@ -1,5 +1,4 @@
 use Rattle.values.proofs.InPlace.{Upto, upto-start}
-use Rattle.cache.specs.Dcache as spec
 use Rattle.cache.specs.Packing.{linesOf}
 use Rattle.cache.proofs.Lines.{emptied, flush-step, flush-end}
 use mathlib.Core.Path.{_≡_}
@@ -10,8 +9,6 @@ use lib.ListN.{length, length-set}
 use borrow.Author.Needs.{needs}
 use Rattle.cache.proofs.flush.Statement.{statement}
 use Rattle.cache.proofs.flush.Tie as tie
-use Rattle.cache.proofs.flush.Reads as reads
-use Rattle.cache.proofs.flush.Lts as lts
 
 abbrev Inv-loop : tie.InvT-loop
 Inv-loop lines₀ i₀ lines i = (i ≤ 512) × (length lines ≡ 512) × Upto emptied (linesOf lines₀) (linesOf lines) i
@@ -35,15 +32,19 @@ loop-less : tie.Need-loop-less Inv-loop μ-loop
 loop-less c = search needs
 
 loop-again : tie.Need-loop-again Inv-loop μ-loop
-loop-again c = let l = c .before .loop in
-    (omega arith, simp length-set (l .inv .1), flush-step (now (c .before .before .args .lines)) (l .lines) (l .i) (l .inv .2) (omega arith))
+loop-again c = let at-loop = c .before in
+    let start = at-loop .before in
+    let l = at-loop .loop in
+    (omega arith, simp length-set (l .inv .1), flush-step (now (start .args .lines)) (l .lines) (l .i) (l .inv .2) (omega arith))
 
 same-length : tie.Need-same-length Inv-loop μ-loop
 same-length c = search needs
 
 returns : tie.Need-returns Inv-loop μ-loop
-returns c = let l = c .before .loop in
-    flush-end (now (c .before .before .args .lines)) (l .lines) (l .i) (l .inv .2) (search needs) (omega arith)
+returns c = let at-loop = c .before in
+    let start = at-loop .before in
+    let l = at-loop .loop in
+    flush-end (now (start .args .lines)) (l .lines) (l .i) (l .inv .2) (search needs) (omega arith)
 
 pub flush-spec : {M : Type 1} → statement M
 flush-spec =

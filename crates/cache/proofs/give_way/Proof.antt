@@ -1,10 +1,6 @@
 use borrow.Author.Needs.{needs}
 use Rattle.cache.proofs.give_way.Statement.{statement}
 use Rattle.cache.proofs.give_way.Tie as tie
-use Rattle.cache.proofs.give_way.Reads as reads
-use Rattle.cache.proofs.give_way.Lts as lts
-use Rattle.buffer.proofs.ready_line.Reads as ready-line-reads
-use Rattle.cache.proofs.send_halves.Reads as send-halves-reads
 
 send-halves-requires : tie.Need-send-halves-requires
 send-halves-requires c κs = search needs
@@ -19,7 +15,9 @@ same-length-2 : tie.Need-same-length-2
 same-length-2 c = search needs
 
 returns : tie.Need-returns
-returns c = rw (← c .before .before .before .before .before .before .before .before .before .before .before .before .send-halves .ensures .same) (c .before .before .before .before .ready-line .ensures)
+returns c = let after-ready-line = c .before .before .before .before in
+    let after-send-halves = after-ready-line .before .before .before .before .before .before .before .before in
+    rw (← after-send-halves .send-halves .ensures .same) (after-ready-line .ready-line .ensures)
 
 pub give-way-spec : {M : Type 1} → statement M
 give-way-spec =

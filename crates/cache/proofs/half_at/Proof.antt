@@ -1,5 +1,4 @@
 use Rattle.values.proofs.Toward.{Toward, toward-start}
-use Rattle.cache.specs.Dcache as spec
 use Rattle.cache.proofs.Copies.{half-step, half-end}
 use mathlib.Core.Path.{_≡_}
 use native.Mathlib.Omega.{arith}
@@ -9,8 +8,6 @@ use lib.ListN.{length, length-set, take, drop}
 use borrow.Author.Needs.{needs}
 use Rattle.cache.proofs.half_at.Statement.{statement}
 use Rattle.cache.proofs.half_at.Tie as tie
-use Rattle.cache.proofs.half_at.Reads as reads
-use Rattle.cache.proofs.half_at.Lts as lts
 
 abbrev Inv-loop : tie.InvT-loop
 Inv-loop store at out₀ i₀ out i = (i ≤ 16) × (length out ≡ 16) × Toward (take 16 (drop at store)) out₀ out i
@@ -37,14 +34,19 @@ loop-less : tie.Need-loop-less Inv-loop μ-loop
 loop-less c = search needs
 
 loop-again : tie.Need-loop-again Inv-loop μ-loop
-loop-again c = let a = c .before .before .before .args in
-    let l = c .before .before .loop in
-    (omega arith, simp length-set (l .inv .1), half-step (now (a .store)) (a .at) (c .before .before .before .pre) _ (l .out) (l .i) (l .inv .2) (c .before .loop-test .taken) (l .inv .1))
+loop-again c = let in-loop = c .before in
+    let at-loop = in-loop .before in
+    let start = at-loop .before in
+    let a = start .args in
+    let l = at-loop .loop in
+    (omega arith, simp length-set (l .inv .1), half-step (now (a .store)) (a .at) (start .pre) _ (l .out) (l .i) (l .inv .2) (in-loop .loop-test .taken) (l .inv .1))
 
 returns : tie.Need-returns Inv-loop μ-loop
-returns c = let a = c .before .before .args in
-    let l = c .before .loop in
-    half-end (now (a .store)) (a .at) (c .before .before .pre) _ (l .out) (l .i) (l .inv .2) (c .loop-test .left) (l .inv .1)
+returns c = let at-loop = c .before in
+    let start = at-loop .before in
+    let a = start .args in
+    let l = at-loop .loop in
+    half-end (now (a .store)) (a .at) (start .pre) _ (l .out) (l .i) (l .inv .2) (c .loop-test .left) (l .inv .1)
 
 pub half-at-spec : {M : Type 1} → statement M
 half-at-spec =

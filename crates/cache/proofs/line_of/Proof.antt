@@ -1,4 +1,3 @@
-use Rattle.cache.specs.Dcache as spec
 use Rattle.cache.specs.Packing.{lineOf}
 use mathlib.Core.Path.{_≡_}
 use native.Mathlib.Omega.{arith}
@@ -6,8 +5,6 @@ use Prim.Native.Nat.{_/_, _%_}
 use borrow.Author.Needs.{needs}
 use Rattle.cache.proofs.line_of.Statement.{statement}
 use Rattle.cache.proofs.line_of.Tie as tie
-use Rattle.cache.proofs.line_of.Reads as reads
-use Rattle.cache.proofs.line_of.Lts as lts
 
 cast-t5 : tie.Need-cast-t5
 cast-t5 c = search needs

@@ -1,5 +1,4 @@
 use Rattle.cache.specs.Dcache.{copied}
-use Rattle.cache.specs.Dcache as spec
 use Rattle.cache.proofs.Copies.{copy-start, copy-step}
 use mathlib.Core.Path.{_≡_, refl, _∙_, ap}
 use native.Mathlib.Omega.{arith}
@@ -9,8 +8,6 @@ use lib.ListN.{length, length-set}
 use borrow.Author.Needs.{needs}
 use Rattle.cache.proofs.read_line.Statement.{statement}
 use Rattle.cache.proofs.read_line.Tie as tie
-use Rattle.cache.proofs.read_line.Reads as reads
-use Rattle.cache.proofs.read_line.Lts as lts
 
 abbrev Inv-loop : tie.InvT-loop
 Inv-loop store₀ at memory from i₀ store i = (i ≤ 32) × (length store ≡ length store₀) × (store ≡ copied store₀ at memory from i)
@@ -40,17 +37,21 @@ loop-less : tie.Need-loop-less Inv-loop μ-loop
 loop-less c = search needs
 
 loop-again : tie.Need-loop-again Inv-loop μ-loop
-loop-again c = let a = c .before .before .before .args in
-    let l = c .before .before .loop in
+loop-again c = let at-loop = c .before .before in
+    let start = at-loop .before in
+    let a = start .args in
+    let l = at-loop .loop in
     (omega arith, simp length-set (l .inv .1), copy-step (now (a .store)) (a .at) (now (a .memory)) (a .from) (l .store) (l .i) (l .inv .2) (omega arith) (omega arith))
 
 same-length : tie.Need-same-length Inv-loop μ-loop
 same-length c = c .before .loop .inv .1
 
 returns : tie.Need-returns Inv-loop μ-loop
-returns c = let l = c .before .loop in
+returns c = let at-loop = c .before in
+    let start = at-loop .before in
+    let l = at-loop .loop in
     let e : l .i ≡ 32 = omega (arith, c .loop-test .left, l .inv .0) in
-    let a = c .before .before .args in
+    let a = start .args in
     l .inv .2 ∙ ap (λ (k : ℕ). copied (now (a .store)) (a .at) (now (a .memory)) (a .from) k) e
 
 pub read-line-spec : {M : Type 1} → statement M

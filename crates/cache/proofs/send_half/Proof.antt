@@ -2,10 +2,6 @@ use mathlib.Core.Path.{refl}
 use borrow.Author.Needs.{needs}
 use Rattle.cache.proofs.send_half.Statement.{statement}
 use Rattle.cache.proofs.send_half.Tie as tie
-use Rattle.cache.proofs.send_half.Reads as reads
-use Rattle.cache.proofs.send_half.Lts as lts
-use Rattle.buffer.proofs.push_half.Reads as push-half-reads
-use Rattle.cache.proofs.half_at.Reads as half-at-reads
 
 half-at-requires : tie.Need-half-at-requires
 half-at-requires c κs = search needs
@@ -23,12 +19,17 @@ same-length-3 : tie.Need-same-length-3
 same-length-3 c = search needs
 
 returns : tie.Need-returns
-returns c = let a = c .before .before .before .before .before .before .before .before .before .before .before .before .before .before .args in
-    rw (c .before .before .before .before .before .before .before .before .before .before .if1 .taken, ← c .before .before .before .before .before .before .before .before .before .half-at .ensures) (c .before .before .before .before .before .push-half .ensures)
+returns c = let after-push-half = c .before .before .before .before .before in
+    let after-half-at = after-push-half .before .before .before .before in
+    let then1 = after-half-at .before in
+    let start = then1 .before .before .before .before in
+    let a = start .args in
+    rw (then1 .if1 .taken, ← after-half-at .half-at .ensures) (after-push-half .push-half .ensures)
 
 returns-2 : tie.Need-returns-2
-returns-2 c = let a = c .before .before .before .before .args in
-    rw (c .if1 .left) (record { same = refl; fits = c .before .before .before .before .pre .0 })
+returns-2 c = let start = c .before .before .before .before in
+    let a = start .args in
+    rw (c .if1 .left) (record { same = refl; fits = start .pre .0 })
 
 pub send-half-spec : {M : Type 1} → statement M
 send-half-spec =

@@ -2,9 +2,6 @@ use Rattle.cache.specs.Dcache.{halvesSent}
 use borrow.Author.Needs.{needs}
 use Rattle.cache.proofs.send_halves.Statement.{statement}
 use Rattle.cache.proofs.send_halves.Tie as tie
-use Rattle.cache.proofs.send_halves.Reads as reads
-use Rattle.cache.proofs.send_halves.Lts as lts
-use Rattle.cache.proofs.send_half.Reads as send-half-reads
 
 mul-send-half : tie.Need-mul-send-half
 mul-send-half c = search needs
@@ -35,7 +32,9 @@ same-length-3 c = search needs
 
 returns : tie.Need-returns
 unfolding halvesSent
-returns c = rw (← c .before .before .before .before .before .before .before .before .before .before .before .before .before .before .before .send-half .ensures .same) (c .before .before .before .before .before .send-half2 .ensures)
+returns c = let after-send-half2 = c .before .before .before .before .before in
+    let after-send-half = after-send-half2 .before .before .before .before .before .before .before .before .before .before in
+    rw (← after-send-half .send-half .ensures .same) (after-send-half2 .send-half2 .ensures)
 
 pub send-halves-spec : {M : Type 1} → statement M
 send-halves-spec =

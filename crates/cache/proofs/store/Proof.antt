@@ -1,16 +1,11 @@
 use Rattle.values.proofs.Maps.{map-set}
 use Rattle.cache.specs.Dcache.{hitStore}
-use Rattle.cache.specs.Dcache as spec
 use Rattle.cache.specs.Packing.{lineOf}
 use Rattle.cache.proofs.Lines.{line-at}
 use denote.Ref.{now}
 use borrow.Author.Needs.{needs}
 use Rattle.cache.proofs.store.Statement.{statement}
 use Rattle.cache.proofs.store.Tie as tie
-use Rattle.cache.proofs.store.Reads as reads
-use Rattle.cache.proofs.store.Lts as lts
-use Rattle.cache.proofs.marked.Reads as marked-reads
-use Rattle.words.proofs.store.Reads as store-reads
 
 mul-marked : tie.Need-mul-marked
 mul-marked c = search needs
@@ -47,8 +42,11 @@ same-length-2 c = search needs
 
 returns : tie.Need-returns
 unfolding hitStore
-returns c = let a = c .before .before .before .before .before .before .before .before .before .args in
-    λ ps. rw (c .before .before .store .ensures, map-set lineOf (now (a .lines)) (a .i) (c .before .before .before .before .marked .result), c .before .before .before .before .marked .ensures, line-at (now (a .lines)) (a .i))
+returns c = let after-store = c .before .before in
+    let after-marked = after-store .before .before in
+    let start = after-marked .before .before .before .before .before in
+    let a = start .args in
+    λ ps. rw (after-store .store .ensures, map-set lineOf (now (a .lines)) (a .i) (after-marked .marked .result), after-marked .marked .ensures, line-at (now (a .lines)) (a .i))
 
 pub store-spec : {M : Type 1} → statement M
 store-spec =

@@ -1,24 +1,16 @@
-use mathlib.Core.List.{List}
-use Rattle.values.specs.declared.Line.{Line}
 use Rattle.cp15.proofs.Laws.{seven-flush, seven-line, seven-clean, seven-drain, seven-nothing}
-use Rattle.access.specs.Code.{machineOf}
-use Rattle.access.specs.Access.{withCache}
-use Rattle.registers.specs.Refusals.{isPair}
+use Rattle.machine.specs.Machine.{withCache}
+use Rattle.cache.specs.Dcache.{Dcache, dcacheFrom, allFlushed}
+use Rattle.values.specs.declared.Line.{Line}
+use Rattle.machine.specs.Lists.{lists, machineOf}
+use mathlib.Core.List.{List}
+use Rattle.registers.specs.Pairs.{isPair}
 use mathlib.Core.Bool.{true, false, _||_}
 use mathlib.Core.Path.{_≡_, sym, _∙_, ap}
-use Rattle.cache.specs.Dcache.{Dcache, allFlushed}
 use denote.Ref.{now}
 use borrow.Author.Needs.{needs}
 use Rattle.cp15.proofs.operate_seven.Statement.{statement}
 use Rattle.cp15.proofs.operate_seven.Tie as tie
-use Rattle.cp15.proofs.operate_seven.Reads as reads
-use Rattle.cp15.proofs.operate_seven.Lts as lts
-use Rattle.cache.proofs.flush.Reads as flush-reads
-use Rattle.cp15.proofs.clean.Reads as clean-reads
-use Rattle.cp15.proofs.drain.Reads as drain-reads
-use Rattle.cp15.proofs.flush_line.Reads as flush-line-reads
-use Rattle.cp15.proofs.is_flush.Reads as is-flush-reads
-use Rattle.registers.proofs.is_pair.Reads as is-pair-reads
 
 is-flush-requires : tie.Need-is-flush-requires
 is-flush-requires c κs = search needs
@@ -31,9 +23,15 @@ same-length c = search needs
 
 returns : tie.Need-returns
 unfolding allFlushed
-returns c = let a = c .before .before .before .before .before .before .before .before .before .before .args in
-    let f : (isPair (a .t) 0 7 || isPair (a .t) 0 6) ≡ true = sym (c .before .before .before .before .before .is-flush .ensures) ∙ c .before .before .before .before .if1 .taken in
-    (λ ps es n. ap (λ (x : List Line). withCache (machineOf (record { memory = now (a .memory); words = now (a .words); bytes = now (a .bytes); lines = now (a .lines); pointers = ps; store = now (a .store) }) es (a .s) n) (record { lines = x; pointers = ps; store = now (a .store) })) (c .before .before .flush .ensures) ∙ sym (seven-flush (machineOf (record { memory = now (a .memory); words = now (a .words); bytes = now (a .bytes); lines = now (a .lines); pointers = ps; store = now (a .store) }) es (a .s) n) (a .t) (a .va) (c .before .before .before .before .before .before .before .before .before .before .pre .0) f), c .before .before .before .before .before .before .before .before .before .before .pre .2 .fits .bytes-long)
+returns c =
+    let b1 = c .before in let b2 = b1 .before in let b3 = b2 .before in let b4 = b3 .before in let b5 = b4 .before in let b6 = b5 .before in
+    let b7 = b6 .before in let b8 = b7 .before in let b9 = b8 .before in let b10 = b9 .before in
+    let a = b10 .args in
+    let f : (isPair (a .t) 0 7 || isPair (a .t) 0 6) ≡ true = sym (b5 .is-flush .ensures) ∙ b4 .if1 .taken in
+    λ ps. record {
+      same = λ es n. ap (λ (x : List Line). withCache (machineOf (lists (now (a .memory)) (now (a .words)) (now (a .bytes)) (now (a .lines)) ps (now (a .store))) es (a .s) n) (dcacheFrom x ps (now (a .store)))) (b2 .flush .ensures) ∙ sym (seven-flush (machineOf (lists (now (a .memory)) (now (a .words)) (now (a .bytes)) (now (a .lines)) ps (now (a .store))) es (a .s) n) (a .t) (a .va) (b10 .pre .0) f);
+      bytes-long = b10 .pre .2 .fits .bytes-long;
+    }
 
 is-pair-requires : tie.Need-is-pair-requires
 is-pair-requires c κs = search needs
@@ -45,10 +43,17 @@ same-length-2 : tie.Need-same-length-2
 same-length-2 c = search needs
 
 returns-2 : tie.Need-returns-2
-returns-2 c = let a = c .before .before .before .before .before .before .before .before .before .before .before .before .args in
-    let f : (isPair (a .t) 0 7 || isPair (a .t) 0 6) ≡ false = sym (c .before .before .before .before .before .before .before .is-flush .ensures) ∙ c .before .before .before .before .before .before .if1 .left in
-    let g : isPair (a .t) 1 6 ≡ true = sym (c .before .before .before .before .before .is-pair .ensures) ∙ c .before .before .before .before .if2 .taken in
-    (λ ps es n. ap (λ (x : Dcache). withCache (machineOf (record { memory = now (a .memory); words = now (a .words); bytes = now (a .bytes); lines = now (a .lines); pointers = ps; store = now (a .store) }) es (a .s) n) x) (c .before .before .flush-line .ensures ps (now (a .store))) ∙ sym (seven-line (machineOf (record { memory = now (a .memory); words = now (a .words); bytes = now (a .bytes); lines = now (a .lines); pointers = ps; store = now (a .store) }) es (a .s) n) (a .t) (a .va) (c .before .before .before .before .before .before .before .before .before .before .before .before .pre .0) f g), c .before .before .before .before .before .before .before .before .before .before .before .before .pre .2 .fits .bytes-long)
+returns-2 c =
+    let b1 = c .before in let b2 = b1 .before in let b3 = b2 .before in let b4 = b3 .before in let b5 = b4 .before in let b6 = b5 .before in
+    let b7 = b6 .before in let b8 = b7 .before in let b9 = b8 .before in let b10 = b9 .before in let b11 = b10 .before in
+    let b12 = b11 .before in
+    let a = b12 .args in
+    let f : (isPair (a .t) 0 7 || isPair (a .t) 0 6) ≡ false = sym (b7 .is-flush .ensures) ∙ b6 .if1 .left in
+    let g : isPair (a .t) 1 6 ≡ true = sym (b5 .is-pair .ensures) ∙ b4 .if2 .taken in
+    λ ps. record {
+      same = λ es n. ap (λ (x : Dcache). withCache (machineOf (lists (now (a .memory)) (now (a .words)) (now (a .bytes)) (now (a .lines)) ps (now (a .store))) es (a .s) n) x) (b2 .flush-line .ensures ps (now (a .store))) ∙ sym (seven-line (machineOf (lists (now (a .memory)) (now (a .words)) (now (a .bytes)) (now (a .lines)) ps (now (a .store))) es (a .s) n) (a .t) (a .va) (b12 .pre .0) f g);
+      bytes-long = b12 .pre .2 .fits .bytes-long;
+    }
 
 is-pair-requires-2 : tie.Need-is-pair-requires-2
 is-pair-requires-2 c κs = search needs
@@ -66,11 +71,19 @@ same-length-5 : tie.Need-same-length-5
 same-length-5 c = search needs
 
 returns-3 : tie.Need-returns-3
-returns-3 c = let a = c .before .before .before .before .before .before .before .before .before .before .before .before .before .before .before .before .before .before .before .before .before .args in
-    let f : (isPair (a .t) 0 7 || isPair (a .t) 0 6) ≡ false = sym (c .before .before .before .before .before .before .before .before .before .before .before .before .before .before .before .before .is-flush .ensures) ∙ c .before .before .before .before .before .before .before .before .before .before .before .before .before .before .before .if1 .left in
-    let g : isPair (a .t) 1 6 ≡ false = sym (c .before .before .before .before .before .before .before .before .before .before .before .before .before .before .is-pair .ensures) ∙ c .before .before .before .before .before .before .before .before .before .before .before .before .before .if2 .left in
-    let h : isPair (a .t) 1 10 ≡ true = sym (c .before .before .before .before .before .before .before .before .before .before .before .before .is-pair2 .ensures) ∙ c .before .before .before .before .before .before .before .before .before .before .before .if3 .taken in
-    (λ ps es n. c .before .before .before .before .before .before .clean .ensures .0 ps es n ∙ sym (seven-clean (machineOf (record { memory = now (a .memory); words = now (a .words); bytes = now (a .bytes); lines = now (a .lines); pointers = ps; store = now (a .store) }) es (a .s) n) (a .t) (a .va) (c .before .before .before .before .before .before .before .before .before .before .before .before .before .before .before .before .before .before .before .before .before .pre .0) f g h), c .before .before .before .before .before .before .clean .ensures .1)
+returns-3 c =
+    let b1 = c .before in let b2 = b1 .before in let b3 = b2 .before in let b4 = b3 .before in let b5 = b4 .before in let b6 = b5 .before in
+    let b7 = b6 .before in let b8 = b7 .before in let b9 = b8 .before in let b10 = b9 .before in let b11 = b10 .before in
+    let b12 = b11 .before in let b13 = b12 .before in let b14 = b13 .before in let b15 = b14 .before in let b16 = b15 .before in
+    let b17 = b16 .before in let b18 = b17 .before in let b19 = b18 .before in let b20 = b19 .before in let b21 = b20 .before in
+    let a = b21 .args in
+    let f : (isPair (a .t) 0 7 || isPair (a .t) 0 6) ≡ false = sym (b16 .is-flush .ensures) ∙ b15 .if1 .left in
+    let g : isPair (a .t) 1 6 ≡ false = sym (b14 .is-pair .ensures) ∙ b13 .if2 .left in
+    let h : isPair (a .t) 1 10 ≡ true = sym (b12 .is-pair2 .ensures) ∙ b11 .if3 .taken in
+    λ ps. record {
+      same = λ es n. b6 .clean .ensures ps .same es n ∙ sym (seven-clean (machineOf (lists (now (a .memory)) (now (a .words)) (now (a .bytes)) (now (a .lines)) ps (now (a .store))) es (a .s) n) (a .t) (a .va) (b21 .pre .0) f g h);
+      bytes-long = b6 .clean .ensures ps .bytes-long;
+    }
 
 is-pair-requires-3 : tie.Need-is-pair-requires-3
 is-pair-requires-3 c κs = search needs
@@ -85,20 +98,35 @@ same-length-7 : tie.Need-same-length-7
 same-length-7 c = search needs
 
 returns-4 : tie.Need-returns-4
-returns-4 c = let a = c .before .before .before .before .before .before .before .before .before .before .before .before .before .before .before .before .before .before .before .before .args in
-    let f : (isPair (a .t) 0 7 || isPair (a .t) 0 6) ≡ false = sym (c .before .before .before .before .before .before .before .before .before .before .before .before .before .before .before .is-flush .ensures) ∙ c .before .before .before .before .before .before .before .before .before .before .before .before .before .before .if1 .left in
-    let g : isPair (a .t) 1 6 ≡ false = sym (c .before .before .before .before .before .before .before .before .before .before .before .before .before .is-pair .ensures) ∙ c .before .before .before .before .before .before .before .before .before .before .before .before .if2 .left in
-    let h : isPair (a .t) 1 10 ≡ false = sym (c .before .before .before .before .before .before .before .before .before .before .before .is-pair2 .ensures) ∙ c .before .before .before .before .before .before .before .before .before .before .if3 .left in
-    let i : isPair (a .t) 4 10 ≡ true = sym (c .before .before .before .before .before .before .before .before .before .is-pair3 .ensures) ∙ c .before .before .before .before .before .before .before .before .if4 .taken in
-    (λ ps es n. c .before .before .before .before .drain .ensures .0 (now (a .lines)) ps (now (a .store)) es n ∙ sym (seven-drain (machineOf (record { memory = now (a .memory); words = now (a .words); bytes = now (a .bytes); lines = now (a .lines); pointers = ps; store = now (a .store) }) es (a .s) n) (a .t) (a .va) (c .before .before .before .before .before .before .before .before .before .before .before .before .before .before .before .before .before .before .before .before .pre .0) f g h i), c .before .before .before .before .drain .ensures .1)
+returns-4 c =
+    let b1 = c .before in let b2 = b1 .before in let b3 = b2 .before in let b4 = b3 .before in let b5 = b4 .before in let b6 = b5 .before in
+    let b7 = b6 .before in let b8 = b7 .before in let b9 = b8 .before in let b10 = b9 .before in let b11 = b10 .before in
+    let b12 = b11 .before in let b13 = b12 .before in let b14 = b13 .before in let b15 = b14 .before in let b16 = b15 .before in
+    let b17 = b16 .before in let b18 = b17 .before in let b19 = b18 .before in let b20 = b19 .before in
+    let a = b20 .args in
+    let f : (isPair (a .t) 0 7 || isPair (a .t) 0 6) ≡ false = sym (b15 .is-flush .ensures) ∙ b14 .if1 .left in
+    let g : isPair (a .t) 1 6 ≡ false = sym (b13 .is-pair .ensures) ∙ b12 .if2 .left in
+    let h : isPair (a .t) 1 10 ≡ false = sym (b11 .is-pair2 .ensures) ∙ b10 .if3 .left in
+    let i : isPair (a .t) 4 10 ≡ true = sym (b9 .is-pair3 .ensures) ∙ b8 .if4 .taken in
+    λ ps. record {
+      same = λ es n. b4 .drain .ensures (now (a .lines)) ps (now (a .store)) .same es n ∙ sym (seven-drain (machineOf (lists (now (a .memory)) (now (a .words)) (now (a .bytes)) (now (a .lines)) ps (now (a .store))) es (a .s) n) (a .t) (a .va) (b20 .pre .0) f g h i);
+      bytes-long = b4 .drain .ensures (now (a .lines)) ps (now (a .store)) .bytes-long;
+    }
 
 returns-5 : tie.Need-returns-5
-returns-5 c = let a = c .before .before .before .before .before .before .before .before .before .before .before .before .args in
-    let f : (isPair (a .t) 0 7 || isPair (a .t) 0 6) ≡ false = sym (c .before .before .before .before .before .before .before .is-flush .ensures) ∙ c .before .before .before .before .before .before .if1 .left in
-    let g : isPair (a .t) 1 6 ≡ false = sym (c .before .before .before .before .before .is-pair .ensures) ∙ c .before .before .before .before .if2 .left in
-    let h : isPair (a .t) 1 10 ≡ false = sym (c .before .before .before .is-pair2 .ensures) ∙ c .before .before .if3 .left in
-    let i : isPair (a .t) 4 10 ≡ false = sym (c .before .is-pair3 .ensures) ∙ c .if4 .left in
-    (λ ps es n. sym (seven-nothing (machineOf (record { memory = now (a .memory); words = now (a .words); bytes = now (a .bytes); lines = now (a .lines); pointers = ps; store = now (a .store) }) es (a .s) n) (a .t) (a .va) (c .before .before .before .before .before .before .before .before .before .before .before .before .pre .0) f g h i), c .before .before .before .before .before .before .before .before .before .before .before .before .pre .2 .fits .bytes-long)
+returns-5 c =
+    let b1 = c .before in let b2 = b1 .before in let b3 = b2 .before in let b4 = b3 .before in let b5 = b4 .before in let b6 = b5 .before in
+    let b7 = b6 .before in let b8 = b7 .before in let b9 = b8 .before in let b10 = b9 .before in let b11 = b10 .before in
+    let b12 = b11 .before in
+    let a = b12 .args in
+    let f : (isPair (a .t) 0 7 || isPair (a .t) 0 6) ≡ false = sym (b7 .is-flush .ensures) ∙ b6 .if1 .left in
+    let g : isPair (a .t) 1 6 ≡ false = sym (b5 .is-pair .ensures) ∙ b4 .if2 .left in
+    let h : isPair (a .t) 1 10 ≡ false = sym (b3 .is-pair2 .ensures) ∙ b2 .if3 .left in
+    let i : isPair (a .t) 4 10 ≡ false = sym (b1 .is-pair3 .ensures) ∙ c .if4 .left in
+    λ ps. record {
+      same = λ es n. sym (seven-nothing (machineOf (lists (now (a .memory)) (now (a .words)) (now (a .bytes)) (now (a .lines)) ps (now (a .store))) es (a .s) n) (a .t) (a .va) (b12 .pre .0) f g h i);
+      bytes-long = b12 .pre .2 .fits .bytes-long;
+    }
 
 pub operate-seven-spec : {M : Type 1} → statement M
 operate-seven-spec =

@@ -2,9 +2,6 @@ use Rattle.cp15.specs.Operations.{read}
 use borrow.Author.Needs.{needs}
 use Rattle.cp15.proofs.read.Statement.{statement}
 use Rattle.cp15.proofs.read.Tie as tie
-use Rattle.cp15.proofs.read.Reads as reads
-use Rattle.cp15.proofs.read.Lts as lts
-use Rattle.registers.proofs.read.Reads as read-reads
 
 read-requires : tie.Need-read-requires
 read-requires c κs = search needs

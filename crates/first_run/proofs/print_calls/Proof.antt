@@ -2,11 +2,6 @@ use borrow.Author.Needs.{needs}
 use Prim.Native.Nat.{_≤_, _-_}
 use Rattle.first_run.proofs.print_calls.Statement.{statement}
 use Rattle.first_run.proofs.print_calls.Tie as tie
-use Rattle.first_run.proofs.print_calls.Reads as reads
-use Rattle.first_run.proofs.print_calls.Lts as lts
-use Rattle.first_run.proofs.print.Reads as print-reads
-use Rattle.first_run.proofs.print_answer.Reads as print-answer-reads
-use Rattle.first_run.proofs.print_call.Reads as print-call-reads
 
 abbrev Inv-loop : tie.InvT-loop
 Inv-loop calls answers others i₀ t5 i = i ≤ 17
@@ -77,14 +72,14 @@ shared-slice-read-print-call-5 c = search needs
 print-call-requires : tie.Need-print-call-requires Inv-loop μ-loop
 print-call-requires c κs = search needs
 
-mul-print-answer : tie.Need-mul-print-answer Inv-loop μ-loop
-mul-print-answer c = search needs
+mul-print-code : tie.Need-mul-print-code Inv-loop μ-loop
+mul-print-code c = search needs
 
-shared-slice-read-print-answer : tie.Need-shared-slice-read-print-answer Inv-loop μ-loop
-shared-slice-read-print-answer c = search needs
+shared-slice-read-print-code : tie.Need-shared-slice-read-print-code Inv-loop μ-loop
+shared-slice-read-print-code c = search needs
 
-print-answer-requires : tie.Need-print-answer-requires Inv-loop μ-loop
-print-answer-requires c κs = search needs
+print-code-requires : tie.Need-print-code-requires Inv-loop μ-loop
+print-code-requires c κs = search needs
 
 mul-if1 : tie.Need-mul-if1 Inv-loop μ-loop
 mul-if1 c = search needs
@@ -143,9 +138,9 @@ print-calls-spec =
     mul-print-call-10
     shared-slice-read-print-call-5
     print-call-requires
-    mul-print-answer
-    shared-slice-read-print-answer
-    print-answer-requires
+    mul-print-code
+    shared-slice-read-print-code
+    print-code-requires
     mul-if1
     shared-slice-read-if1
     mul-if1-2

@@ -2,16 +2,14 @@ use native.Mathlib.Omega.{arith}
 use borrow.Author.Needs.{needs}
 use Rattle.host.proofs.mapping_code.Statement.{statement}
 use Rattle.host.proofs.mapping_code.Tie as tie
-use Rattle.host.proofs.mapping_code.Reads as reads
-use Rattle.host.proofs.mapping_code.Lts as lts
-use Rattle.tlb.proofs.word_of.Reads as word-of-reads
-use Rattle.values.proofs.status_number.Reads as status-number-reads
 
 enum-known-m : tie.Need-enum-known-m
 enum-known-m c = search needs
 
 word-of-requires : tie.Need-word-of-requires
-word-of-requires c κs = rw (c .before .m .given .1) at (c .before .before .before .pre)
+word-of-requires c κs = let after-m = c .before in
+    let start = after-m .before .before in
+    rw (after-m .m .given .1) at (start .pre)
 
 enum-known-m-2 : tie.Need-enum-known-m-2
 enum-known-m-2 c = search needs

@@ -2,9 +2,6 @@ use borrow.Author.Tests.{lt-ltb, le-ltb}
 use borrow.Author.Needs.{needs}
 use Rattle.host.proofs.sa110_right.Statement.{statement}
 use Rattle.host.proofs.sa110_right.Tie as tie
-use Rattle.host.proofs.sa110_right.Reads as reads
-use Rattle.host.proofs.sa110_right.Lts as lts
-use Rattle.rights.proofs.entry.Reads as entry-reads
 
 entry-requires : tie.Need-entry-requires
 entry-requires c κs = search needs

@@ -3,10 +3,6 @@ use mathlib.Core.Path.{_∙_, ap}
 use borrow.Author.Needs.{needs}
 use Rattle.host.proofs.sa110_walk.Statement.{statement}
 use Rattle.host.proofs.sa110_walk.Tie as tie
-use Rattle.host.proofs.sa110_walk.Reads as reads
-use Rattle.host.proofs.sa110_walk.Lts as lts
-use Rattle.host.proofs.mapping_code.Reads as mapping-code-reads
-use Rattle.walk.proofs.walk.Reads as walk-reads
 
 mul-walk : tie.Need-mul-walk
 mul-walk c = search needs

@@ -2,9 +2,6 @@ use Rattle.plain.specs.Plain.{plainFaulted}
 use borrow.Author.Needs.{needs}
 use Rattle.plain.proofs.faulted.Statement.{statement}
 use Rattle.plain.proofs.faulted.Tie as tie
-use Rattle.plain.proofs.faulted.Reads as reads
-use Rattle.plain.proofs.faulted.Lts as lts
-use Rattle.translation.proofs.fault_set.Reads as fault-set-reads
 
 fault-set-requires : tie.Need-fault-set-requires
 fault-set-requires c κs = search needs

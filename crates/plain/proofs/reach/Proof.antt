@@ -1,32 +1,54 @@
-use Rattle.translation.specs.Alignment.{alignmentFaults}
-use Rattle.plain.specs.Plain.{plainReach}
-use mathlib.Core.Path.{_≡_, sym, _∙_}
-use mathlib.Core.Bool.{true, false}
+use Rattle.values.specs.declared.VirtualAddress.{VirtualAddress}
+use Rattle.bus.specs.Physical.{physical}
+use Rattle.translation.specs.Translation.{walkedOnly, checked}
+use Rattle.translation.specs.declared.Translation.{Translation}
+use Rattle.plain.specs.Code.{plainOf}
+use Rattle.plain.proofs.Laws.{reach-misaligned, reach-aligned}
+use mathlib.Core.Path.{sym, _∙_, ap}
+use denote.Ref.{now}
 use borrow.Author.Needs.{needs}
 use Rattle.plain.proofs.reach.Statement.{statement}
 use Rattle.plain.proofs.reach.Tie as tie
-use Rattle.plain.proofs.reach.Reads as reads
-use Rattle.plain.proofs.reach.Lts as lts
-use Rattle.plain.proofs.translate.Reads as translate-reads
-use Rattle.translation.proofs.faults_alignment.Reads as faults-alignment-reads
 
 faults-alignment-requires : tie.Need-faults-alignment-requires
 faults-alignment-requires c κs = search needs
 
 returns : tie.Need-returns
-unfolding plainReach
-returns c = let a = c .before .before .before .before .args in
-    let e : alignmentFaults (a .s .registers) (a .a) ≡ true = sym (c .before .faults-alignment .ensures) ∙ c .if1 .taken in
-    record { same = rw e; ranged = search needs }
+returns c =
+    let test = c .before in
+    let a = test .before .before .before .args in
+    let p = plainOf (now (a .memory)) (a .s) in
+    record { same = sym (reach-misaligned p (a .a) (sym (test .faults-alignment .ensures) ∙ c .if1 .taken)); ranged = search needs }
 
-translate-requires : tie.Need-translate-requires
-translate-requires c κs = search needs
+cleared-requires : tie.Need-cleared-requires
+cleared-requires c κs = search needs
+
+walked-only-requires : tie.Need-walked-only-requires
+walked-only-requires c κs = search needs
+
+check-requires : tie.Need-check-requires
+check-requires c κs = search needs
 
 returns-2 : tie.Need-returns-2
-unfolding plainReach
-returns-2 c = let a = c .before .before .before .before .before .args in
-    let e : alignmentFaults (a .s .registers) (a .a) ≡ false = sym (c .before .before .faults-alignment .ensures) ∙ c .before .if1 .left in
-    rw e (c .translate .ensures)
+returns-2 c =
+    let walked = c .before in
+    let cleared = walked .before in
+    let branch = cleared .before in
+    let test = branch .before in
+    let a = test .before .before .before .args in
+    let m = now (a .memory) in
+    let r = a .s .registers in
+    let e = reach-aligned (plainOf m (a .s)) (a .a) (sym (test .faults-alignment .ensures) ∙ branch .if1 .left) in
+    let t = walked .walked-only .ensures .same ∙ ap (λ (va : VirtualAddress). walkedOnly r (physical m) va) (cleared .cleared .ensures) in
+    record { same = c .check .ensures .same ∙ ap (λ (x : Translation). checked r (a .a) x) t ∙ sym e; ranged = c .check .ensures .ranged }
 
 pub reach-spec : {M : Type 1} → statement M
-reach-spec = tie.close (tie.spec faults-alignment-requires returns translate-requires returns-2)
+reach-spec =
+    tie.close
+    (tie.spec
+    faults-alignment-requires
+    returns
+    cleared-requires
+    walked-only-requires
+    check-requires
+    returns-2)

@@ -2,9 +2,6 @@ use Rattle.plain.specs.Plain.{plainRead}
 use borrow.Author.Needs.{needs}
 use Rattle.plain.proofs.read.Statement.{statement}
 use Rattle.plain.proofs.read.Tie as tie
-use Rattle.plain.proofs.read.Reads as reads
-use Rattle.plain.proofs.read.Lts as lts
-use Rattle.registers.proofs.read.Reads as read-reads
 
 read-requires : tie.Need-read-requires
 read-requires c κs = search needs

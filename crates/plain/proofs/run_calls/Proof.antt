@@ -7,13 +7,6 @@ use Prim.Native.Nat.{_-_}
 use borrow.Author.Needs.{needs}
 use Rattle.plain.proofs.run_calls.Statement.{statement}
 use Rattle.plain.proofs.run_calls.Tie as tie
-use Rattle.plain.proofs.run_calls.Reads as reads
-use Rattle.plain.proofs.run_calls.Lts as lts
-use Rattle.plain.proofs.step.Reads as step-reads
-use Rattle.plain.proofs.zero_state.Reads as zero-state-reads
-use Rattle.trace.proofs.call_at.Reads as call-at-reads
-use Rattle.trace.proofs.code.Reads as code-reads
-use Rattle.trace.proofs.is_call_at.Reads as is-call-at-reads
 
 abbrev Inv-loop : tie.InvT-loop
 Inv-loop table memory₀ calls answers₀ n s₀ i₀ memory answers s i = Going memory₀ calls answers₀ n memory answers s i
@@ -25,49 +18,127 @@ zero-state-requires : tie.Need-zero-state-requires Inv-loop μ-loop
 zero-state-requires c κs = search needs
 
 loop-holds : tie.Need-loop-holds Inv-loop μ-loop
-loop-holds c = let a = c .before .before .before .before .args in
-    going-start (now (a .memory)) (now (a .calls)) (now (a .answers)) (a .n) (c .before .before .before .before .pre .1) (c .zero-state .result) (c .zero-state .ensures (now (a .memory)))
+loop-holds c =
+    let answers = c .before in
+    let calls = answers .before in
+    let start = calls .before .before in
+    let a = start .args in
+    let m = now (a .memory) in
+    going-start m (now (a .calls)) (now (a .answers)) (a .n) (start .pre .1) (c .zero-state .result) (c .zero-state .ensures m)
 
 is-call-at-requires : tie.Need-is-call-at-requires Inv-loop μ-loop
-is-call-at-requires c κs = omega (arith, c .before .before .before .before .before .before .pre .1 .held .calls-hold)
+is-call-at-requires c κs =
+    let loop = c .before in
+    let zero = loop .before in
+    let answers = zero .before in
+    let calls = answers .before in
+    let start = calls .before .before in
+    omega (arith, start .pre .1 .calls-hold)
 
 same-length : tie.Need-same-length Inv-loop μ-loop
-same-length c = c .before .before .before .loop .inv .memory-long
+same-length c = let test = c .before in let loop = test .before .before in loop .loop .inv .memory-long
 
 same-length-2 : tie.Need-same-length-2 Inv-loop μ-loop
-same-length-2 c = c .before .before .before .loop .inv .long
+same-length-2 c = let test = c .before in let loop = test .before .before in loop .loop .inv .long
 
 returns : tie.Need-returns Inv-loop μ-loop
-returns c = let a = c .before .before .before .before .before .before .before .before .args in
-    let l = c .before .before .before .loop in
-    going-stop (now (a .memory)) (now (a .calls)) (now (a .answers)) (a .n) (c .before .before .before .before .before .before .before .before .pre .1) (l .memory) (l .answers) (l .s) (l .i) (l .inv) (c .before .before .loop-test .taken) (sym (c .before .is-call-at .ensures) ∙ not-true _ (c .if1 .taken))
+returns c =
+    let test = c .before in
+    let inside = test .before in
+    let loop = inside .before in
+    let zero = loop .before in
+    let answers = zero .before in
+    let calls = answers .before in
+    let start = calls .before .before in
+    let a = start .args in
+    let l = loop .loop in
+    let t = sym (test .is-call-at .ensures) ∙ not-true _ (c .if1 .taken) in
+    going-stop (now (a .memory)) (now (a .calls)) (now (a .answers)) (a .n) (l .memory) (l .answers) (l .s) (l .i) (l .inv) (inside .loop-test .taken) t
 
 call-at-requires : tie.Need-call-at-requires Inv-loop μ-loop
-call-at-requires c κs = omega (arith, c .before .before .before .before .before .before .before .before .pre .1 .held .calls-hold)
+call-at-requires c κs =
+    let test = c .before in
+    let loop = test .before .before in
+    let zero = loop .before in
+    let answers = zero .before in
+    let calls = answers .before in
+    let start = calls .before .before in
+    omega (arith, start .pre .1 .calls-hold)
 
 step-requires : tie.Need-step-requires Inv-loop μ-loop
-step-requires c κs = (c .before .before .before .before .before .before .before .before .before .before .pre .0, c .before .before .before .before .before .loop .inv .kept)
+step-requires c κs =
+    let call = c .before in
+    let test = call .before .before in
+    let loop = test .before .before in
+    let zero = loop .before in
+    let answers = zero .before in
+    let calls = answers .before in
+    let start = calls .before .before in
+    (start .pre .0, loop .loop .inv .kept)
 
 code-requires : tie.Need-code-requires Inv-loop μ-loop
 code-requires c κs = search needs
 
 mul-answers : tie.Need-mul-answers Inv-loop μ-loop
-mul-answers c = omega (arith, c .before .before .before .before .before .before .before .before .before .before .before .before .before .before .good .1 .1 .1 .0, c .before .before .before .before .before .before .before .before .before .before .before .before .before .before .pre .1 .held .answers-hold)
+mul-answers c =
+    let step = c .before .before .before in
+    let call = step .before .before in
+    let test = call .before .before in
+    let loop = test .before .before in
+    let zero = loop .before in
+    let answers = zero .before in
+    let calls = answers .before in
+    let start = calls .before .before in
+    omega (arith, start .good .1 .1 .1 .0, start .pre .1 .answers-hold)
 
 slice-write-answers : tie.Need-slice-write-answers Inv-loop μ-loop
-slice-write-answers c = omega (arith, c .before .before .before .before .before .before .before .before .before .before .before .before .before .before .pre .1 .held .answers-hold, c .before .before .before .before .before .before .before .before .before .loop .inv .long)
+slice-write-answers c =
+    let step = c .before .before .before in
+    let call = step .before .before in
+    let test = call .before .before in
+    let loop = test .before .before in
+    let zero = loop .before in
+    let answers = zero .before in
+    let calls = answers .before in
+    let start = calls .before .before in
+    omega (arith, start .pre .1 .answers-hold, loop .loop .inv .long)
 
 add-i : tie.Need-add-i Inv-loop μ-loop
-add-i c = omega (arith, c .before .before .before .before .before .before .before .before .before .before .before .before .before .before .before .fits .n)
+add-i c =
+    let code = c .before in
+    let step = code .before .before .before in
+    let call = step .before .before in
+    let test = call .before .before in
+    let loop = test .before .before in
+    let zero = loop .before in
+    let answers = zero .before in
+    let calls = answers .before in
+    let start = calls .before .before in
+    omega (arith, start .fits .n)
 
 loop-less : tie.Need-loop-less Inv-loop μ-loop
 loop-less c = omega arith
 
 loop-again : tie.Need-loop-again Inv-loop μ-loop
-loop-again c = let a = c .before .before .before .before .before .before .before .before .before .before .before .before .before .before .before .args in
-    let l = c .before .before .before .before .before .before .before .before .before .before .loop in
-    let st = c .before .before .before .before .step in
-    going-on (now (a .memory)) (now (a .calls)) (now (a .answers)) (a .n) (c .before .before .before .before .before .before .before .before .before .before .before .before .before .before .before .pre .1) (l .memory) (l .answers) (l .s) (l .i) (l .inv) (st .last .1 .0) (st .result) (c .before .before .before .before .before .before .call-at .result) (c .before .code .result) (c .before .before .before .before .before .before .before .before .before .loop-test .taken) (sym (c .before .before .before .before .before .before .before .before .is-call-at .ensures) ∙ not-false _ (c .before .before .before .before .before .before .before .if1 .left)) (c .before .before .before .before .before .before .call-at .ensures) (st .ensures) (st .kept .1 .0) (c .before .code .ensures)
+loop-again c =
+    let code = c .before in
+    let step = code .before .before .before in
+    let call = step .before .before in
+    let branch = call .before in
+    let test = branch .before in
+    let inside = test .before in
+    let loop = inside .before in
+    let zero = loop .before in
+    let answers = zero .before in
+    let calls = answers .before in
+    let start = calls .before .before in
+    let a = start .args in
+    let l = loop .loop in
+    let st = step .step in
+    let t = sym (test .is-call-at .ensures) ∙ not-false _ (branch .if1 .left) in
+    going-on (now (a .memory)) (now (a .calls)) (now (a .answers)) (a .n) (l .memory) (l .answers) (l .s) (l .i) (l .inv)
+    (st .last .1 .0) (st .result) (call .call-at .result) (code .code .result)
+    (inside .loop-test .taken) t (call .call-at .ensures) (st .ensures) (st .kept .1 .0) (code .code .ensures)
 
 same-length-3 : tie.Need-same-length-3 Inv-loop μ-loop
 same-length-3 c = c .before .loop .inv .memory-long
@@ -76,9 +147,15 @@ same-length-4 : tie.Need-same-length-4 Inv-loop μ-loop
 same-length-4 c = c .before .loop .inv .long
 
 returns-2 : tie.Need-returns-2 Inv-loop μ-loop
-returns-2 c = let a = c .before .before .before .before .before .before .args in
-    let l = c .before .loop in
-    going-end (now (a .memory)) (now (a .calls)) (now (a .answers)) (a .n) (c .before .before .before .before .before .before .pre .1) (l .memory) (l .answers) (l .s) (l .i) (l .inv) (c .loop-test .left)
+returns-2 c =
+    let loop = c .before in
+    let zero = loop .before in
+    let answers = zero .before in
+    let calls = answers .before in
+    let start = calls .before .before in
+    let a = start .args in
+    let l = loop .loop in
+    going-end (now (a .memory)) (now (a .calls)) (now (a .answers)) (a .n) (l .memory) (l .answers) (l .s) (l .i) (l .inv) (c .loop-test .left)
 
 pub run-calls-spec : {M : Type 1} → statement M
 run-calls-spec =

@@ -1,63 +1,124 @@
-use Rattle.plain.specs.Plain.{PlainStepped, plainStoreAt}
-use Rattle.plain.specs.Code.{plainOf, Kept}
-use Rattle.plain.proofs.Laws.{store-by, keep-faulted}
-use mathlib.Core.Path.{sym, _∙_, subst}
+use Rattle.values.specs.declared.Answer.the-variants.{Value}
+use Rattle.bus.specs.Physical.{physical, aborts}
+use Rattle.translation.specs.Faults.{buffers}
+use Rattle.plain.specs.Plain.{plainStepped}
+use Rattle.plain.specs.Code.{plainOf}
+use Rattle.plain.proofs.Laws.{store-in, store-drop, store-other, inside-fits, fault-steps}
+use mathlib.Core.Path.{_≡_, sym, _∙_, ap}
+use mathlib.Core.Bool.{true, false}
+use mathlib.Core.List.{List}
+use Prim.Native.Nat.{ℕ}
 use denote.Ref.{now}
 use borrow.Author.Needs.{needs}
 use Rattle.plain.proofs.store.Statement.{statement}
 use Rattle.plain.proofs.store.Tie as tie
-use Rattle.plain.proofs.store.Reads as reads
-use Rattle.plain.proofs.store.Lts as lts
-use Rattle.plain.proofs.faulted.Reads as faulted-reads
-use Rattle.plain.proofs.reach.Reads as reach-reads
-use Rattle.plain.proofs.store_passed.Reads as store-passed-reads
 
-reach-requires : tie.Need-reach-requires
-reach-requires c κs = search needs
+aborts-requires : tie.Need-aborts-requires
+aborts-requires c κs = search needs
 
-enum-known-c : tie.Need-enum-known-c
-enum-known-c c = search needs
-
-store-passed-requires : tie.Need-store-passed-requires
-store-passed-requires c κs = (c .before .before .before .before .before .before .before .before .pre .1, c .before .before .before .before .before .before .before .before .pre .2, rw (c .before .before .c .given .1) at (c .before .before .before .before .reach .ensures .ranged))
-
-enum-known-c-2 : tie.Need-enum-known-c-2
-enum-known-c-2 c = search needs
-
-faulted-requires : tie.Need-faulted-requires
-faulted-requires c κs = rw (c .before .c2 .given .1) at (c .before .before .before .reach .ensures .ranged)
+buffers-requires : tie.Need-buffers-requires
+buffers-requires c κs = search needs
 
 same-length : tie.Need-same-length
 same-length c = search needs
 
 returns : tie.Need-returns
-returns c = let a = c .before .before .before .before .before .before .before .before .before .before .before .args in
-    let p = plainOf (now (a .memory)) (a .s) in
-    rw (store-by p (a .a) _ (a .v) (sym (c .before .before .before .before .before .before .before .reach .ensures .same) ∙ c .before .before .before .before .before .c .given .1)) (c .before .before .store-passed .ensures)
+returns c =
+    let test = c .before in
+    let first = test .before in
+    let bus = first .before in
+    let lent = bus .before in
+    let r = lent .before in
+    let address = r .before in
+    let pa = address .before in
+    let start = pa .before .before in
+    let a = start .args in
+    let m = now (a .memory) in
+    let h : aborts (physical m) (a .p .address) ≡ true = sym (bus .aborts .ensures) ∙ first .if1 .taken in
+    let f : buffers (a .s .registers) (a .p) ≡ true = sym (test .buffers .ensures) ∙ c .if2 .taken in
+    record { same = sym (store-drop (plainOf m (a .s)) (a .a) (a .p) (a .v) h f); kept = start .pre .0 }
+
+other-status-requires : tie.Need-other-status-requires
+other-status-requires c κs = search needs
+
+faulted-requires : tie.Need-faulted-requires
+faulted-requires c κs = search needs
 
 same-length-2 : tie.Need-same-length-2
 same-length-2 c = search needs
 
 returns-2 : tie.Need-returns-2
-unfolding plainStoreAt
-returns-2 c = let a = c .before .before .before .before .before .before .before .before .args in
-    let p = plainOf (now (a .memory)) (a .s) in
-    let e = c .faulted .ensures (now (a .memory)) in
+returns-2 c =
+    let status = c .before in
+    let second = status .before in
+    let test = second .before in
+    let first = test .before in
+    let bus = first .before in
+    let lent = bus .before in
+    let r = lent .before in
+    let address = r .before in
+    let pa = address .before in
+    let start = pa .before .before in
+    let a = start .args in
+    let m = now (a .memory) in
+    let p = plainOf m (a .s) in
+    let h : aborts (physical m) (a .p .address) ≡ true = sym (bus .aborts .ensures) ∙ first .if1 .taken in
+    let f : buffers (a .s .registers) (a .p) ≡ false = sym (test .buffers .ensures) ∙ second .if2 .left in
+    fault-steps p (start .pre .0) _ _ _ _ (a .p .domain) (a .a .address) (c .faulted .ensures m) (status .other-status .ensures)
+    (store-other p (a .a) (a .p) (a .v) h f)
+
+cast-store : tie.Need-cast-store
+cast-store c = search needs
+
+store-requires : tie.Need-store-requires
+store-requires c κs =
+    let branch = c .before .before in
+    let bus = branch .before in
+    let lent = bus .before in
+    let r = lent .before in
+    let address = r .before in
+    let pa = address .before in
+    let start = pa .before .before in
+    let a = start .args in
+    let m = now (a .memory) in
+    let k = start .pre .1 in
+    (k .width, inside-fits m (a .a) (a .p) (record { placed = k; answers = sym (bus .aborts .ensures) ∙ branch .if1 .left }))
+
+same-length-3 : tie.Need-same-length-3
+same-length-3 c = search needs
+
+returns-3 : tie.Need-returns-3
+returns-3 c =
+    let stored = c .before .before in
+    let branch = stored .before .before .before in
+    let bus = branch .before in
+    let lent = bus .before in
+    let r = lent .before in
+    let address = r .before in
+    let pa = address .before in
+    let start = pa .before .before in
+    let a = start .args in
+    let m = now (a .memory) in
+    let h : aborts (physical m) (a .p .address) ≡ false = sym (bus .aborts .ensures) ∙ branch .if1 .left in
+    let e = store-in (plainOf m (a .s)) (a .a) (a .p) (a .v) h in
     record {
-      same = e ∙ sym (store-by p (a .a) _ (a .v) (sym (c .before .before .before .before .reach .ensures .same) ∙ c .before .before .c2 .given .1));
-      kept = subst (λ (x : PlainStepped). Kept (x .plain)) (sym e) (keep-faulted p (c .before .before .before .before .before .before .before .before .pre .1) _ _ _);
+      same = ap (λ (l : List ℕ). plainStepped (plainOf l (a .s)) (Value 0)) (stored .store .ensures) ∙ sym e;
+      kept = start .pre .0;
     }
 
 pub store-spec : {M : Type 1} → statement M
 store-spec =
     tie.close
     (tie.spec
-    reach-requires
-    enum-known-c
-    store-passed-requires
-    enum-known-c-2
-    faulted-requires
+    aborts-requires
+    buffers-requires
     same-length
     returns
+    other-status-requires
+    faulted-requires
     same-length-2
-    returns-2)
+    returns-2
+    cast-store
+    store-requires
+    same-length-3
+    returns-3)

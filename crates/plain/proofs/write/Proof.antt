@@ -2,9 +2,6 @@ use Rattle.plain.specs.Plain.{plainWrite}
 use borrow.Author.Needs.{needs}
 use Rattle.plain.proofs.write.Statement.{statement}
 use Rattle.plain.proofs.write.Tie as tie
-use Rattle.plain.proofs.write.Reads as reads
-use Rattle.plain.proofs.write.Lts as lts
-use Rattle.registers.proofs.written.Reads as written-reads
 
 written-requires : tie.Need-written-requires
 written-requires c κs = search needs

@@ -1,13 +1,14 @@
 use Rattle.plain.specs.Plain.{plainStart}
-use mathlib.Core.Path.{refl}
+use borrow.Author.Needs.{needs}
 use Rattle.plain.proofs.zero_state.Statement.{statement}
 use Rattle.plain.proofs.zero_state.Tie as tie
-use Rattle.plain.proofs.zero_state.Reads as reads
-use Rattle.plain.proofs.zero_state.Lts as lts
+
+zero-registers-requires : tie.Need-zero-registers-requires
+zero-registers-requires c κs = search needs
 
 returns : tie.Need-returns
 unfolding plainStart
-returns c = λ m. refl
+returns c = λ m. rw (c .zero-registers .ensures)
 
 pub zero-state-spec : {M : Type 1} → statement M
-zero-state-spec = tie.close (tie.spec returns)
+zero-state-spec = tie.close (tie.spec zero-registers-requires returns)

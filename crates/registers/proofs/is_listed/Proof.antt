@@ -3,8 +3,6 @@ use mathlib.Core.Path.{sym}
 use borrow.Author.Tests.{eq-eqb, ne-eqb}
 use Rattle.registers.proofs.is_listed.Statement.{statement}
 use Rattle.registers.proofs.is_listed.Tie as tie
-use Rattle.registers.proofs.is_listed.Reads as reads
-use Rattle.registers.proofs.is_listed.Lts as lts
 
 returns : tie.Need-returns
 returns c = sym (listed-all _ (eq-eqb _ _ (c .before .if1 .taken)) (eq-eqb _ _ (c .if2 .taken)))

@@ -3,8 +3,6 @@ use mathlib.Core.Path.{refl}
 use borrow.Author.Needs.{needs}
 use Rattle.registers.proofs.kept.Statement.{statement}
 use Rattle.registers.proofs.kept.Tie as tie
-use Rattle.registers.proofs.kept.Reads as reads
-use Rattle.registers.proofs.kept.Lts as lts
 
 mul-result : tie.Need-mul-result
 mul-result c = search needs

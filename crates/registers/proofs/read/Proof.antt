@@ -4,8 +4,6 @@ use borrow.Author.Tests.{ne-eqb}
 use borrow.Author.Needs.{needs}
 use Rattle.registers.proofs.read.Statement.{statement}
 use Rattle.registers.proofs.read.Tie as tie
-use Rattle.registers.proofs.read.Reads as reads
-use Rattle.registers.proofs.read.Lts as lts
 
 returns : tie.Need-returns
 unfolding readOf
@@ -36,7 +34,12 @@ returns-6 c = rw (c .if6 .taken)
 
 returns-7 : tie.Need-returns-7
 unfolding readOf
-returns-7 c = rw (ne-eqb _ _ (c .before .before .before .before .before .if1 .left), ne-eqb _ _ (c .before .before .before .before .if2 .left), ne-eqb _ _ (c .before .before .before .if3 .left), ne-eqb _ _ (c .before .before .if4 .left), ne-eqb _ _ (c .before .if5 .left), ne-eqb _ _ (c .if6 .left))
+returns-7 c = let else5 = c .before in
+    let else4 = else5 .before in
+    let else3 = else4 .before in
+    let else2 = else3 .before in
+    let else1 = else2 .before in
+    rw (ne-eqb _ _ (else1 .if1 .left), ne-eqb _ _ (else2 .if2 .left), ne-eqb _ _ (else3 .if3 .left), ne-eqb _ _ (else4 .if4 .left), ne-eqb _ _ (else5 .if5 .left), ne-eqb _ _ (c .if6 .left))
 
 pub read-spec : {M : Type 1} → statement M
 read-spec =

@@ -3,9 +3,6 @@ use borrow.Author.Tests.{ne-eqb}
 use borrow.Author.Needs.{needs}
 use Rattle.registers.proofs.written.Statement.{statement}
 use Rattle.registers.proofs.written.Tie as tie
-use Rattle.registers.proofs.written.Reads as reads
-use Rattle.registers.proofs.written.Lts as lts
-use Rattle.registers.proofs.kept.Reads as kept-reads
 
 kept-requires : tie.Need-kept-requires
 kept-requires c κs = search needs
@@ -35,7 +32,11 @@ returns-5 c = rw (c .if5 .taken)
 
 returns-6 : tie.Need-returns-6
 unfolding writtenOf
-returns-6 c = rw (ne-eqb _ _ (c .before .before .before .before .if1 .left), ne-eqb _ _ (c .before .before .before .if2 .left), ne-eqb _ _ (c .before .before .if3 .left), ne-eqb _ _ (c .before .if4 .left), ne-eqb _ _ (c .if5 .left))
+returns-6 c = let else4 = c .before in
+    let else3 = else4 .before in
+    let else2 = else3 .before in
+    let else1 = else2 .before in
+    rw (ne-eqb _ _ (else1 .if1 .left), ne-eqb _ _ (else2 .if2 .left), ne-eqb _ _ (else3 .if3 .left), ne-eqb _ _ (else4 .if4 .left), ne-eqb _ _ (c .if5 .left))
 
 pub written-spec : {M : Type 1} → statement M
 written-spec =

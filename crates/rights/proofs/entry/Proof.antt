@@ -3,8 +3,6 @@ use Rattle.rights.proofs.Tables.{entry}
 use borrow.Author.Needs.{needs}
 use Rattle.rights.proofs.entry.Statement.{statement}
 use Rattle.rights.proofs.entry.Tie as tie
-use Rattle.rights.proofs.entry.Reads as reads
-use Rattle.rights.proofs.entry.Lts as lts
 
 array-read-result : tie.Need-array-read-result
 array-read-result c = search needs

@@ -3,8 +3,6 @@ use Rattle.rights.proofs.Tables.{entry}
 use borrow.Author.Needs.{needs}
 use Rattle.rights.proofs.place.Statement.{statement}
 use Rattle.rights.proofs.place.Tie as tie
-use Rattle.rights.proofs.place.Reads as reads
-use Rattle.rights.proofs.place.Lts as lts
 
 mul-result : tie.Need-mul-result
 mul-result c = search needs

@@ -2,9 +2,6 @@ use Rattle.rights.proofs.Tables.{right-by}
 use borrow.Author.Needs.{needs}
 use Rattle.rights.proofs.right.Statement.{statement}
 use Rattle.rights.proofs.right.Tie as tie
-use Rattle.rights.proofs.right.Reads as reads
-use Rattle.rights.proofs.right.Lts as lts
-use Rattle.values.proofs.bit_number.Reads as bit-number-reads
 
 bit-number-requires : tie.Need-bit-number-requires
 bit-number-requires c κs = search needs
@@ -49,10 +46,13 @@ element-copy-out-result : tie.Need-element-copy-out-result
 element-copy-out-result c = search needs
 
 returns : tie.Need-returns
-returns c = let a = c .before .before .before .args in
-    let p = c .before .before .bit-number in
-    let w = c .before .bit-number2 in
-    rw (c .before .before .before .pre .0)
+returns c = let after-bit-number2 = c .before in
+    let after-bit-number = after-bit-number2 .before in
+    let start = after-bit-number .before in
+    let a = start .args in
+    let p = after-bit-number .bit-number in
+    let w = after-bit-number2 .bit-number2 in
+    rw (start .pre .0)
     (right-by (a .value) (a .ap) (a .control) (p .result) (w .result) (a .privileged) (a .store) (search needs) (search needs) (p .ensures .0) (w .ensures .0))
 
 pub right-spec : {M : Type 1} → statement M

@@ -2,8 +2,6 @@ use Rattle.rights.specs.Rights.{rightsTable, rights}
 use mathlib.Core.Path.{refl}
 use Rattle.rights.proofs.table.Statement.{statement}
 use Rattle.rights.proofs.table.Tie as tie
-use Rattle.rights.proofs.table.Reads as reads
-use Rattle.rights.proofs.table.Lts as lts
 
 returns : tie.Need-returns
 unfolding rightsTable rights

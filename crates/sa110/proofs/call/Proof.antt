@@ -5,10 +5,6 @@ use denote.Ref.{now}
 use borrow.Author.Needs.{needs}
 use Rattle.sa110.proofs.call.Statement.{statement}
 use Rattle.sa110.proofs.call.Tie as tie
-use Rattle.sa110.proofs.call.Reads as reads
-use Rattle.sa110.proofs.call.Lts as lts
-use Rattle.sa110.proofs.serve.Reads as serve-reads
-use Rattle.sa110.proofs.state_refusal.Reads as state-refusal-reads
 
 state-refusal-requires : tie.Need-state-refusal-requires
 state-refusal-requires c κs = search needs
@@ -20,7 +16,9 @@ same-length-2 : tie.Need-same-length-2
 same-length-2 c = search needs
 
 returns : tie.Need-returns
-returns c = let a = c .before .before .before .before .before .before .args in sym (state-refused (machineIn (now (a .memory)) (now (a .store)) (a .state) (a .cp15)) (a .c) _ (c .before .state-refusal .ensures) (c .if1 .taken))
+returns c = let after-state-refusal = c .before in
+    let start = after-state-refusal .before .before .before .before .before in
+    let a = start .args in sym (state-refused (machineIn (now (a .memory)) (now (a .store)) (a .state) (a .cp15)) (a .c) _ (after-state-refusal .state-refusal .ensures) (c .if1 .taken))
 
 serve-requires : tie.Need-serve-requires
 serve-requires c κs = search needs

@@ -1,11 +1,15 @@
 use Rattle.sa110.proofs.Starts.{fresh-is}
+use borrow.Author.Needs.{needs}
 use Rattle.sa110.proofs.fresh.Statement.{statement}
 use Rattle.sa110.proofs.fresh.Tie as tie
-use Rattle.sa110.proofs.fresh.Reads as reads
-use Rattle.sa110.proofs.fresh.Lts as lts
+
+zero-counts-requires : tie.Need-zero-counts-requires
+zero-counts-requires c κs = search needs
 
 returns : tie.Need-returns
-returns c = fresh-is (c .args .size)
+returns c =
+    let b1 = c .before in
+    let a = b1 .args in λ m st. rw (c .zero-counts .ensures) (fresh-is (a .size) m st)
 
 pub fresh-spec : {M : Type 1} → statement M
-fresh-spec = tie.close (tie.spec returns)
+fresh-spec = tie.close (tie.spec zero-counts-requires returns)

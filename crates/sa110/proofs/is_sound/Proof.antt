@@ -1,10 +1,6 @@
 use borrow.Author.Needs.{needs}
 use Rattle.sa110.proofs.is_sound.Statement.{statement}
 use Rattle.sa110.proofs.is_sound.Tie as tie
-use Rattle.sa110.proofs.is_sound.Reads as reads
-use Rattle.sa110.proofs.is_sound.Lts as lts
-use Rattle.sa110.proofs.unpacked.Reads as unpacked-reads
-use Rattle.sound.proofs.sound.Reads as sound-reads
 
 unpacked-requires : tie.Need-unpacked-requires
 unpacked-requires c κs = search needs
@@ -28,7 +24,9 @@ sound-requires : tie.Need-sound-requires
 sound-requires c κs = search needs
 
 returns : tie.Need-returns
-returns c = let a = c .before .before .before .before .before .before .before .before .before .before .before .before .before .args in λ m st e. rw (c .before .before .before .before .before .before .unpacked .ensures) at (c .sound .ensures m st (a .state .size) e)
+returns c = let after-unpacked = c .before .before .before .before .before .before in
+    let start = after-unpacked .before .before .before .before .before .before .before in
+    let a = start .args in λ m st e. rw (after-unpacked .unpacked .ensures) at (c .sound .ensures m st (a .state .size) e)
 
 pub is-sound-spec : {M : Type 1} → statement M
 is-sound-spec =

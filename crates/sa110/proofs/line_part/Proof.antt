@@ -4,8 +4,6 @@ use native.Mathlib.Omega.{arith}
 use borrow.Author.Needs.{needs}
 use Rattle.sa110.proofs.line_part.Statement.{statement}
 use Rattle.sa110.proofs.line_part.Tie as tie
-use Rattle.sa110.proofs.line_part.Reads as reads
-use Rattle.sa110.proofs.line_part.Lts as lts
 
 mul-result : tie.Need-mul-result
 mul-result c = search needs

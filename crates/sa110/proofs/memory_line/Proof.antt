@@ -2,8 +2,6 @@ use borrow.Author.Tests.{lt-ltb, le-ltb}
 use borrow.Author.Needs.{needs}
 use Rattle.sa110.proofs.memory_line.Statement.{statement}
 use Rattle.sa110.proofs.memory_line.Tie as tie
-use Rattle.sa110.proofs.memory_line.Reads as reads
-use Rattle.sa110.proofs.memory_line.Lts as lts
 
 cast-if1 : tie.Need-cast-if1
 cast-if1 c = search needs
@@ -12,7 +10,9 @@ cast-t6 : tie.Need-cast-t6
 cast-t6 c = search needs
 
 returns : tie.Need-returns
-returns c = let a = c .before .before .before .args in rw (lt-ltb (a .pa .0) (a .n) (c .before .if1 .taken))
+returns c = let then1 = c .before in
+    let start = then1 .before .before in
+    let a = start .args in rw (lt-ltb (a .pa .0) (a .n) (then1 .if1 .taken))
 
 returns-2 : tie.Need-returns-2
 returns-2 c = let a = c .before .before .args in rw (le-ltb (a .pa .0) (a .n) (c .if1 .left))

@@ -10,8 +10,6 @@ use Rattle.sa110.specs.State.{bytesOf}
 use Rattle.sa110.specs.declared.SlotBytes.{SlotBytes}
 use Rattle.sa110.proofs.packed.Statement.{statement}
 use Rattle.sa110.proofs.packed.Tie as tie
-use Rattle.sa110.proofs.packed.Reads as reads
-use Rattle.sa110.proofs.packed.Lts as lts
 
 abbrev Inv-loop : tie.InvT-loop
 Inv-loop bytes out₀ i₀ out i = (i ≤ 8) × Toward bytes (bytesOf out₀) (bytesOf out) i
@@ -41,14 +39,18 @@ loop-less : tie.Need-loop-less Inv-loop μ-loop
 loop-less c = search needs
 
 loop-again : tie.Need-loop-again Inv-loop μ-loop
-loop-again c = let l = c .before .before .loop in
-    let bs = c .before .before .before .args .t1 in
+loop-again c = let at-loop = c .before .before in
+    let start = at-loop .before in
+    let l = at-loop .loop in
+    let bs = start .args .t1 in
     let n : length bs ≡ 8 = search needs in
     (omega arith, pack-step bs (replicate 8 (record { bytes = replicate 16 0 })) (l .out) (l .i) n refl (omega arith) (l .inv .1))
 
 returns : tie.Need-returns Inv-loop μ-loop
-returns c = let l = c .before .loop in
-    let bs = c .before .before .args .t1 in
+returns c = let at-loop = c .before in
+    let start = at-loop .before in
+    let l = at-loop .loop in
+    let bs = start .args .t1 in
     let n : length bs ≡ 8 = search needs in
     let e : l .i ≡ 8 = omega arith in
     let o : List SlotBytes = replicate 8 (record { bytes = replicate 16 0 }) in

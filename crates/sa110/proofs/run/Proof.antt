@@ -1,3 +1,4 @@
+use Rattle.step.proofs.Runs.{all-refused}
 use Rattle.step.proofs.Runs.{run-as}
 use Rattle.sa110.specs.State.{machineIn}
 use mathlib.Core.Path.{sym, _∙_}
@@ -5,12 +6,6 @@ use denote.Ref.{now}
 use borrow.Author.Needs.{needs}
 use Rattle.sa110.proofs.run.Statement.{statement}
 use Rattle.sa110.proofs.run.Tie as tie
-use Rattle.sa110.proofs.run.Reads as reads
-use Rattle.sa110.proofs.run.Lts as lts
-use Rattle.trace.proofs.calls_held.Reads as calls-held-reads
-use Rattle.step.proofs.refuse_calls.Reads as refuse-calls-reads
-use Rattle.sa110.proofs.run_served.Reads as run-served-reads
-use Rattle.sa110.proofs.state_refusal.Reads as state-refusal-reads
 
 calls-held-requires : tie.Need-calls-held-requires
 calls-held-requires c κs = search needs
@@ -31,9 +26,13 @@ same-length-3 : tie.Need-same-length-3
 same-length-3 c = search needs
 
 returns : tie.Need-returns
-returns c = let a = c .before .before .before .before .before .before .before .before .before .before .before .before .before .before .args in
-    let m = machineIn (now (a .memory)) (now (a .store)) (a .state) (a .cp15) in
-    c .before .before .refuse-calls .ensures m (c .before .before .before .before .before .state-refusal .ensures) ∙ sym (run-as m (now (a .calls)) (now (a .answers)) _ (c .before .before .before .before .before .before .before .before .calls-held .ensures))
+returns c =
+    let b1 = c .before in let b2 = b1 .before in let b3 = b2 .before in let b4 = b3 .before in let b5 = b4 .before in let b6 = b5 .before in
+    let b7 = b6 .before in let b8 = b7 .before in let b9 = b8 .before in let b10 = b9 .before in let b11 = b10 .before in
+    let b12 = b11 .before in let b13 = b12 .before in let b14 = b13 .before in
+    let a = b14 .args in
+    let m = (machineIn (now (a .memory)) (now (a .store)) (a .state) (a .cp15)) in
+    all-refused m _ (b5 .state-refusal .ensures) (b4 .if1 .taken) _ (now (a .answers)) _ _ (b2 .refuse-calls .ensures) ∙ sym (run-as m (now (a .calls)) (now (a .answers)) _ (b8 .calls-held .ensures))
 
 run-served-requires : tie.Need-run-served-requires
 run-served-requires c κs = search needs
@@ -48,9 +47,12 @@ same-length-6 : tie.Need-same-length-6
 same-length-6 c = search needs
 
 returns-2 : tie.Need-returns-2
-returns-2 c = let a = c .before .before .before .before .before .before .before .before .before .before .before .before .before .before .before .before .before .before .before .before .args in
+returns-2 c = let after-run-served = c .before .before .before .before .before .before in
+    let after-calls-held = after-run-served .before .before .before .before .before .before .before .before in
+    let start = after-calls-held .before .before .before .before .before .before in
+    let a = start .args in
     let m = machineIn (now (a .memory)) (now (a .store)) (a .state) (a .cp15) in
-    c .before .before .before .before .before .before .run-served .ensures ∙ sym (run-as m (now (a .calls)) (now (a .answers)) _ (c .before .before .before .before .before .before .before .before .before .before .before .before .before .before .calls-held .ensures))
+    after-run-served .run-served .ensures ∙ sym (run-as m (now (a .calls)) (now (a .answers)) _ (after-calls-held .calls-held .ensures))
 
 pub run-spec : {M : Type 1} → statement M
 run-spec =

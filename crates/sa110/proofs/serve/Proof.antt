@@ -1,18 +1,12 @@
 use Rattle.sa110.proofs.Shapes.{rows-of, serves-of, called-by}
-use Rattle.access.specs.Code.{Lists}
-use denote.Ref.{now}
+use Rattle.machine.specs.Lists.{lists}
 use lib.ListN.{length}
 use native.Mathlib.Omega.{arith}
 use mathlib.Core.Path.{_≡_}
+use denote.Ref.{now}
 use borrow.Author.Needs.{needs}
 use Rattle.sa110.proofs.serve.Statement.{statement}
 use Rattle.sa110.proofs.serve.Tie as tie
-use Rattle.sa110.proofs.serve.Reads as reads
-use Rattle.sa110.proofs.serve.Lts as lts
-use Rattle.rights.proofs.table.Reads as table-reads
-use Rattle.sa110.proofs.packed.Reads as packed-reads
-use Rattle.step.proofs.step.Reads as step-reads
-use Rattle.sa110.proofs.unpacked.Reads as unpacked-reads
 
 table-requires : tie.Need-table-requires
 table-requires c κs = search needs
@@ -20,28 +14,32 @@ table-requires c κs = search needs
 unpacked-requires : tie.Need-unpacked-requires
 unpacked-requires c κs = search needs
 
+scalars-of-requires : tie.Need-scalars-of-requires
+scalars-of-requires c κs = search needs
+
 slice-aggregate-step : tie.Need-slice-aggregate-step
-slice-aggregate-step c = search (needs, c .before .before .before .before .before .before .before .before .before .before .before .before .before .good .0)
+slice-aggregate-step c = search (needs, c .before .before .before .before .before .before .before .before .before .before .before .before .before .before .good .0)
 
 slice-aggregate-step-2 : tie.Need-slice-aggregate-step-2
-slice-aggregate-step-2 c = search needs
+slice-aggregate-step-2 c = search (needs, c .before .before .before .before .before .before .before .before .before .before .before .before .before .before .before .before .good .0)
 
 slice-aggregate-step-3 : tie.Need-slice-aggregate-step-3
-slice-aggregate-step-3 c = search (needs, c .before .before .before .before .before .before .before .before .before .before .before .before .before .before .before .before .good .0)
+slice-aggregate-step-3 c = search (needs, c .before .before .before .before .before .before .before .before .before .before .before .before .before .before .before .before .before .good .0)
 
 slice-aggregate-step-4 : tie.Need-slice-aggregate-step-4
-slice-aggregate-step-4 c = search needs
+slice-aggregate-step-4 c = search (needs, c .before .before .before .before .before .before .before .before .before .before .before .before .before .before .before .before .before .before .before .good .0)
 
 step-requires : tie.Need-step-requires
-step-requires c κs = let a = c .before .before .before .before .before .before .before .before .before .before .before .before .before .before .before .before .before .before .args in
+step-requires c κs = let a = c .before .before .before .before .before .before .before .before .before .before .before .before .before .before .before .before .before .before .before .args in
     let s = a .state in
-    let bs = c .before .before .before .before .before .before .before .before .unpacked .result in
-    let e : length (s .entries) ≡ 32 = search (needs, c .before .before .before .before .before .before .before .before .before .before .before .before .before .before .before .before .before .before .good .0) in
-    let ls : length (s .lines) ≡ 512 = search (needs, c .before .before .before .before .before .before .before .before .before .before .before .before .before .before .before .before .before .before .good .0) in
-    let ps : length (s .pointers) ≡ 16 = search (needs, c .before .before .before .before .before .before .before .before .before .before .before .before .before .before .before .before .before .before .good .0) in
-    let ws : length (s .words) ≡ 8 = search (needs, c .before .before .before .before .before .before .before .before .before .before .before .before .before .before .before .before .before .before .good .0) in
-    let z = c .before .before .before .before .before .before .before .before .unpacked .ok in
-    (c .before .before .before .before .before .before .before .before .before .before .before .before .before .before .before .table .ensures, ws, z .1 .0 .1, serves-of (now (a .memory)) (now (a .store)) s (a .cp15) bs (c .before .before .before .before .before .before .before .before .unpacked .ensures) (c .before .before .before .before .before .before .before .before .before .before .before .before .before .before .before .before .before .before .pre) e ls ps ws (z .1 .0 .1) (rows-of bs (z .0) (z .1 .1)) (λ i h. omega (arith, c .before .before .before .before .before .before .before .before .before .before .before .before .before .before .before .before .before .slice-known .given i)) (λ i h. omega (arith, c .before .before .before .before .before .before .before .before .before .before .before .before .before .before .before .before .slice-known2 .given i)))
+    let bs = c .before .before .before .before .before .before .before .before .before .unpacked .result in
+    let e : length (s .entries) ≡ 32 = search (needs, c .before .before .before .before .before .before .before .before .before .before .before .before .before .before .before .before .before .before .before .good .0) in
+    let ls : length (s .lines) ≡ 512 = search (needs, c .before .before .before .before .before .before .before .before .before .before .before .before .before .before .before .before .before .before .before .good .0) in
+    let ps : length (s .pointers) ≡ 16 = search (needs, c .before .before .before .before .before .before .before .before .before .before .before .before .before .before .before .before .before .before .before .good .0) in
+    let ws : length (s .words) ≡ 8 = search (needs, c .before .before .before .before .before .before .before .before .before .before .before .before .before .before .before .before .before .before .before .good .0) in
+    let z = c .before .before .before .before .before .before .before .before .before .unpacked .ok in
+    let h = serves-of (now (a .memory)) (now (a .store)) s (a .cp15) bs (c .before .before .before .before .before .before .before .before .before .unpacked .ensures) (c .before .before .before .before .before .before .before .before .before .before .before .before .before .before .before .before .before .before .before .pre) e ls ps ws (z .1 .0 .1) (rows-of bs (z .0) (z .1 .1)) (λ i h. omega (arith, c .before .before .before .before .before .before .before .before .before .before .before .before .before .before .before .before .before .before .slice-known .given i)) (λ i h. omega (arith, c .before .before .before .before .before .before .before .before .before .before .before .before .before .before .before .before .before .slice-known2 .given i)) in
+    (c .before .before .before .before .before .before .before .before .before .before .before .before .before .before .before .before .table .ensures, ws, z .1 .0 .1, rw (c .before .before .before .before .before .before .before .before .scalars-of .ensures) h)
 
 packed-requires : tie.Need-packed-requires
 packed-requires c κs = search needs
@@ -53,10 +51,18 @@ same-length-2 : tie.Need-same-length-2
 same-length-2 c = search needs
 
 returns : tie.Need-returns
-returns c = let a = c .before .before .before .before .before .before .before .before .before .before .before .before .before .before .before .before .before .before .before .before .before .before .before .before .before .before .before .before .before .before .before .args in
-    let st = c .before .before .before .before .before .before .before .before .before .before .before .before .step in
-    let k : Lists = record { memory = st .last .1 .0; words = st .last .1 .1 .0; bytes = st .last .1 .1 .1 .0; lines = st .last .1 .1 .1 .1 .0; pointers = st .last .1 .1 .1 .1 .1 .0; store = st .last .1 .1 .1 .1 .1 .1 .0 } in
-    called-by (now (a .memory)) (now (a .store)) (a .state) (a .cp15) (c .before .before .before .before .before .before .before .before .before .before .before .before .before .before .before .before .before .before .before .before .before .unpacked .result) (c .before .before .before .before .before .before .before .before .before .before .before .before .before .before .before .before .before .before .before .before .before .unpacked .ensures) (c .before .before .before .before .before .before .before .before .before .before .before .before .before .before .before .before .before .before .before .before .before .before .before .before .before .before .before .before .before .before .before .pre) k (st .last .1 .1 .1 .1 .1 .1 .1 .0) (st .result) (a .c) (c .packed .result) (st .ensures .0) (c .packed .ensures)
+returns c =
+    let b1 = c .before in let b2 = b1 .before in let b3 = b2 .before in let b4 = b3 .before in let b5 = b4 .before in let b6 = b5 .before in
+    let b7 = b6 .before in let b8 = b7 .before in let b9 = b8 .before in let b10 = b9 .before in let b11 = b10 .before in
+    let b12 = b11 .before in let b13 = b12 .before in let b14 = b13 .before in let b15 = b14 .before in let b16 = b15 .before in
+    let b17 = b16 .before in let b18 = b17 .before in let b19 = b18 .before in let b20 = b19 .before in let b21 = b20 .before in
+    let b22 = b21 .before in let b23 = b22 .before in let b24 = b23 .before in let b25 = b24 .before in let b26 = b25 .before in
+    let b27 = b26 .before in let b28 = b27 .before in let b29 = b28 .before in let b30 = b29 .before in let b31 = b30 .before in
+    let b32 = b31 .before in
+    let a = b32 .args in
+    let st = b12 .step in
+    let k = (lists (st .last .1 .0) (st .last .1 .1 .0) (st .last .1 .1 .1 .0) (st .last .1 .1 .1 .1 .0) (st .last .1 .1 .1 .1 .1 .0) (st .last .1 .1 .1 .1 .1 .1 .0)) in
+    called-by (now (a .memory)) (now (a .store)) (a .state) (a .cp15) (b22 .unpacked .result) (b22 .unpacked .ensures) (b32 .pre) k (st .last .1 .1 .1 .1 .1 .1 .1 .0) (st .result) (a .c) (c .packed .result) (rw (b21 .scalars-of .ensures) at (st .ensures .0)) (c .packed .ensures)
 
 pub serve-spec : {M : Type 1} → statement M
 serve-spec =
@@ -64,6 +70,7 @@ serve-spec =
     (tie.spec
     table-requires
     unpacked-requires
+    scalars-of-requires
     slice-aggregate-step
     slice-aggregate-step-2
     slice-aggregate-step-3

@@ -7,17 +7,14 @@ use denote.Ref.{now}
 use borrow.Author.Needs.{needs}
 use Rattle.sa110.proofs.shown.Statement.{statement}
 use Rattle.sa110.proofs.shown.Tie as tie
-use Rattle.sa110.proofs.shown.Reads as reads
-use Rattle.sa110.proofs.shown.Lts as lts
-use Rattle.cache.proofs.find.Reads as find-reads
-use Rattle.sa110.proofs.state_refusal.Reads as state-refusal-reads
-use Rattle.sa110.proofs.uncached_line.Reads as uncached-line-reads
 
 state-refusal-requires : tie.Need-state-refusal-requires
 state-refusal-requires c κs = search needs
 
 returns : tie.Need-returns
-returns c = let a = c .before .before .before .before .args in shown-refused (machineIn (now (a .memory)) (now (a .store)) (a .state) (a .cp15)) (a .va) _ (c .before .state-refusal .ensures) (c .if1 .taken)
+returns c = let after-state-refusal = c .before in
+    let start = after-state-refusal .before .before .before in
+    let a = start .args in shown-refused (machineIn (now (a .memory)) (now (a .store)) (a .state) (a .cp15)) (a .va) _ (after-state-refusal .state-refusal .ensures) (c .if1 .taken)
 
 slice-aggregate-find : tie.Need-slice-aggregate-find
 slice-aggregate-find c = search needs
@@ -38,14 +35,24 @@ uncached-line-requires c κs = let a = c .before .before .before .before .before
     base-whole m (a .va) _ (c .before .before .before .before .before .before .before .state-refusal .ensures) (c .before .before .before .before .before .before .if1 .left) (length-map (a .state .lines) lineOf ∙ ls)
 
 returns-2 : tie.Need-returns-2
-returns-2 c = let a = c .before .before .before .before .before .before .before .before .before .before .before .args in
+returns-2 c = let after-found = c .before in
+    let after-find = after-found .before .before in
+    let else1 = after-find .before .before .before .before in
+    let after-state-refusal = else1 .before in
+    let start = after-state-refusal .before .before .before in
+    let a = start .args in
     let m = machineIn (now (a .memory)) (now (a .store)) (a .state) (a .cp15) in
-    sym (shown-by m (a .va) _ (c .before .before .before .before .before .before .before .before .state-refusal .ensures) (c .before .before .before .before .before .before .before .if1 .left) _ (sym (c .before .found .given .1) ∙ c .before .before .before .find .ensures))
+    sym (shown-by m (a .va) _ (after-state-refusal .state-refusal .ensures) (else1 .if1 .left) _ (sym (after-found .found .given .1) ∙ after-find .find .ensures))
 
 returns-3 : tie.Need-returns-3
-returns-3 c = let a = c .before .before .before .before .before .before .before .before .before .before .before .args in
+returns-3 c = let after-enum-told = c .before in
+    let after-find = after-enum-told .before .before in
+    let else1 = after-find .before .before .before .before in
+    let after-state-refusal = else1 .before in
+    let start = after-state-refusal .before .before .before in
+    let a = start .args in
     let m = machineIn (now (a .memory)) (now (a .store)) (a .state) (a .cp15) in
-    c .uncached-line .ensures ∙ sym (shown-by m (a .va) _ (c .before .before .before .before .before .before .before .before .state-refusal .ensures) (c .before .before .before .before .before .before .before .if1 .left) _ (sym (c .before .enum-told .given .1) ∙ c .before .before .before .find .ensures))
+    c .uncached-line .ensures ∙ sym (shown-by m (a .va) _ (after-state-refusal .state-refusal .ensures) (else1 .if1 .left) _ (sym (after-enum-told .enum-told .given .1) ∙ after-find .find .ensures))
 
 pub shown-spec : {M : Type 1} → statement M
 shown-spec =

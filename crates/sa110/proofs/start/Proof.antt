@@ -1,28 +1,40 @@
-use Rattle.sa110.proofs.Starts.{start-served, start-refused}
+use Rattle.sa110.proofs.Starts.{start-by, start-served, start-refused}
 use denote.Ref.{now}
 use borrow.Author.Needs.{needs}
 use Rattle.sa110.proofs.start.Statement.{statement}
 use Rattle.sa110.proofs.start.Tie as tie
-use Rattle.sa110.proofs.start.Reads as reads
-use Rattle.sa110.proofs.start.Lts as lts
-use Rattle.sa110.proofs.fresh.Reads as fresh-reads
-use Rattle.sa110.proofs.start_refusal.Reads as start-refusal-reads
 
-start-refusal-requires : tie.Need-start-refusal-requires
-start-refusal-requires c κs = search needs
+zero-cp15-requires : tie.Need-zero-cp15-requires
+zero-cp15-requires c κs = search needs
+
+lent-refusal-requires : tie.Need-lent-refusal-requires
+lent-refusal-requires c κs = search needs
 
 fresh-requires : tie.Need-fresh-requires
 fresh-requires c κs = search needs
 
 returns : tie.Need-returns
-returns c = let a = c .before .before .before .before .before .args in start-served (now (a .memory)) (now (a .store)) _ _ (c .before .before .start-refusal .ensures) (c .before .if1 .taken) (c .fresh .ensures (now (a .memory)) (now (a .store)))
+returns c =
+    let b1 = c .before in let b2 = b1 .before in let b3 = b2 .before in let b4 = b3 .before in let b5 = b4 .before in let b6 = b5 .before in
+    let a = b6 .args in
+    rw (b3 .zero-cp15 .ensures) (start-served (now (a .memory)) (now (a .store)) _ _ (start-by (now (a .memory)) (now (a .store)) _ (b2 .lent-refusal .ensures)) (b1 .if1 .taken) (c .fresh .ensures (now (a .memory)) (now (a .store))))
 
 fresh-requires-2 : tie.Need-fresh-requires-2
 fresh-requires-2 c κs = search needs
 
 returns-2 : tie.Need-returns-2
-returns-2 c = let a = c .before .before .before .before .before .args in start-refused (now (a .memory)) (now (a .store)) _ _ (c .before .before .start-refusal .ensures) (c .before .if1 .left) (c .fresh2 .ensures (now (a .memory)) (now (a .store)))
+returns-2 c =
+    let b1 = c .before in let b2 = b1 .before in let b3 = b2 .before in let b4 = b3 .before in let b5 = b4 .before in let b6 = b5 .before in
+    let a = b6 .args in
+    rw (b3 .zero-cp15 .ensures) (start-refused (now (a .memory)) (now (a .store)) _ _ (start-by (now (a .memory)) (now (a .store)) _ (b2 .lent-refusal .ensures)) (b1 .if1 .left) (c .fresh2 .ensures (now (a .memory)) (now (a .store))))
 
 pub start-spec : {M : Type 1} → statement M
 start-spec =
-    tie.close (tie.spec start-refusal-requires fresh-requires returns fresh-requires-2 returns-2)
+    tie.close
+    (tie.spec
+    zero-cp15-requires
+    lent-refusal-requires
+    fresh-requires
+    returns
+    fresh-requires-2
+    returns-2)

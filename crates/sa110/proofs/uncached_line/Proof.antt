@@ -4,12 +4,6 @@ use mathlib.Core.Path.{_≡_, sym, _∙_}
 use borrow.Author.Needs.{needs}
 use Rattle.sa110.proofs.uncached_line.Statement.{statement}
 use Rattle.sa110.proofs.uncached_line.Tie as tie
-use Rattle.sa110.proofs.uncached_line.Reads as reads
-use Rattle.sa110.proofs.uncached_line.Lts as lts
-use Rattle.sa110.proofs.mapped_line.Reads as mapped-line-reads
-use Rattle.sa110.proofs.memory_line.Reads as memory-line-reads
-use Rattle.values.proofs.mmu.Reads as mmu-reads
-use Rattle.walk.proofs.walk.Reads as walk-reads
 
 mmu-requires : tie.Need-mmu-requires
 mmu-requires c κs = search needs

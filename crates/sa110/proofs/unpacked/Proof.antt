@@ -9,8 +9,6 @@ use Rattle.sa110.specs.State.{bytesOf}
 use Rattle.sa110.specs.declared.SlotBytes.{SlotBytes}
 use Rattle.sa110.proofs.unpacked.Statement.{statement}
 use Rattle.sa110.proofs.unpacked.Tie as tie
-use Rattle.sa110.proofs.unpacked.Reads as reads
-use Rattle.sa110.proofs.unpacked.Lts as lts
 
 abbrev Inv-loop : tie.InvT-loop
 Inv-loop slots out₀ i₀ out i = (i ≤ 8) × Toward (bytesOf slots) out₀ out i
@@ -40,14 +38,18 @@ loop-less : tie.Need-loop-less Inv-loop μ-loop
 loop-less c = search needs
 
 loop-again : tie.Need-loop-again Inv-loop μ-loop
-loop-again c = let l = c .before .before .before .loop in
-    let slots = c .before .before .before .before .args .t1 in
+loop-again c = let at-loop = c .before .before .before in
+    let start = at-loop .before in
+    let l = at-loop .loop in
+    let slots = start .args .t1 in
     let n : length slots ≡ 8 = search needs in
     (omega arith, unpack-step slots (replicate 8 (replicate 16 0)) (l .out) (l .i) n refl (omega arith) (l .inv .1))
 
 returns : tie.Need-returns Inv-loop μ-loop
-returns c = let l = c .before .loop in
-    let slots = c .before .before .args .t1 in
+returns c = let at-loop = c .before in
+    let start = at-loop .before in
+    let l = at-loop .loop in
+    let slots = start .args .t1 in
     let n : length slots ≡ 8 = search needs in
     let e : l .i ≡ 8 = omega arith in
     toward-all (bytesOf slots) (replicate 8 (replicate 16 0)) (l .out) 8 (subst (λ (n : ℕ). Toward (bytesOf slots) (replicate 8 (replicate 16 0)) (l .out) n) e (l .inv .1)) refl (length-map slots (λ (s : SlotBytes). s .bytes) ∙ n)

@@ -1,38 +1,36 @@
-use mathlib.Core.Path.{_∙_}
+use Rattle.step.proofs.Ready.{clean-ready}
+use Rattle.refusals.proofs.Rows.{access-accepted}
+use Rattle.machine.specs.Lists.{lists}
 use denote.Ref.{now}
-use Rattle.access.specs.Code.{Lists, machineOf}
-use Rattle.access.proofs.Reaches.{clean-ready}
-use Rattle.step.proofs.Requests.{requested-done, accepted}
 use borrow.Author.Needs.{needs}
 use Rattle.step.proofs.done.Statement.{statement}
 use Rattle.step.proofs.done.Tie as tie
-use Rattle.step.proofs.done.Reads as reads
-use Rattle.step.proofs.done.Lts as lts
-use Rattle.access.proofs.serve.Reads as serve-reads
-use Rattle.cp15.proofs.read.Reads as read-reads
-use Rattle.cp15.proofs.write.Reads as write-reads
-use Rattle.step.proofs.asked.Reads as asked-reads
 
-asked-requires : tie.Need-asked-requires
-asked-requires c κs = search needs
-
-enum-known-q : tie.Need-enum-known-q
-enum-known-q c = search needs
+enum-known-c : tie.Need-enum-known-c
+enum-known-c c = search needs
 
 serve-requires : tie.Need-serve-requires
-serve-requires c κs = let k = c .before .before .before .before .before .before .before .before .before .before .before .before .before .before .before .before .before .pre in (k .0, k .1, k .2, rw (c .before .before .before .before .before .before .before .before .q .given .1) at (accepted (c .before .before .before .before .before .before .before .before .before .before .before .before .before .before .before .before .before .args .c) _ (c .before .before .before .before .before .before .before .before .before .before .asked .ensures) (k .4)))
+serve-requires c κs =
+    let b1 = c .before in let b2 = b1 .before in let b3 = b2 .before in let b4 = b3 .before in let b5 = b4 .before in let b6 = b5 .before in
+    let b7 = b6 .before in let b8 = b7 .before in let b9 = b8 .before in let b10 = b9 .before in let b11 = b10 .before in
+    let b12 = b11 .before in let b13 = b12 .before in let b14 = b13 .before in let b15 = b14 .before in let b16 = b15 .before in
+    (b16 .pre .0, b16 .pre .1, b16 .pre .2, access-accepted (b8 .c .given .0 .0) (rw (b8 .c .given .1) at (b16 .pre .4)) .0)
 
-enum-known-q-2 : tie.Need-enum-known-q-2
-enum-known-q-2 c = search needs
+enum-known-c-2 : tie.Need-enum-known-c-2
+enum-known-c-2 c = search needs
 
 read-requires : tie.Need-read-requires
 read-requires c κs = search needs
 
-enum-known-q-3 : tie.Need-enum-known-q-3
-enum-known-q-3 c = search needs
+enum-known-c-3 : tie.Need-enum-known-c-3
+enum-known-c-3 c = search needs
 
 write-requires : tie.Need-write-requires
-write-requires c κs = let a = c .before .before .before .before .before .before .before .before .before .before .before .before .before .before .before .before .args in let k = c .before .before .before .before .before .before .before .before .before .before .before .before .before .before .before .before .pre in (k .1 .entries-long, clean-ready (a .s) (record { memory = now (a .memory); words = now (a .words); bytes = now (a .bytes); lines = now (a .lines); pointers = now (a .pointers); store = now (a .store) }) (k .2))
+write-requires c κs =
+    let b1 = c .before in let b2 = b1 .before in let b3 = b2 .before in let b4 = b3 .before in let b5 = b4 .before in let b6 = b5 .before in
+    let b7 = b6 .before in let b8 = b7 .before in let b9 = b8 .before in let b10 = b9 .before in let b11 = b10 .before in
+    let b12 = b11 .before in let b13 = b12 .before in let b14 = b13 .before in let b15 = b14 .before in
+    let a = b15 .args in (b15 .pre .1 .entries-long, clean-ready (a .s) (lists (now (a .memory)) (now (a .words)) (now (a .bytes)) (now (a .lines)) (now (a .pointers)) (now (a .store))) (b15 .pre .2))
 
 same-length : tie.Need-same-length
 same-length c = search needs
@@ -53,10 +51,18 @@ same-length-6 : tie.Need-same-length-6
 same-length-6 c = search needs
 
 returns : tie.Need-returns
-returns c = let a = c .before .before .before .before .before .before .before .before .before .before .before .before .before .before .before .before .before .before .before .before .before .before .before .before .before .before .before .before .before .before .args in let l : Lists = record { memory = now (a .memory); words = now (a .words); bytes = now (a .bytes); lines = now (a .lines); pointers = now (a .pointers); store = now (a .store) } in ((λ n. c .before .before .before .before .before .before .before .before .before .before .before .before .serve .ensures .0 n ∙ (rw (c .before .before .before .before .before .before .before .before .before .before .before .before .before .before .before .before .before .before .before .before .before .q .given .1) at (requested-done (machineOf l (now (a .entries)) (a .s) n) (a .c) _ (c .before .before .before .before .before .before .before .before .before .before .before .before .before .before .before .before .before .before .before .before .before .before .before .asked .ensures)))), c .before .before .before .before .before .before .before .before .before .before .before .before .serve .ensures .1)
+returns c =
+    let b1 = c .before in let b2 = b1 .before in let b3 = b2 .before in let b4 = b3 .before in let b5 = b4 .before in let b6 = b5 .before in
+    let b7 = b6 .before in let b8 = b7 .before in let b9 = b8 .before in let b10 = b9 .before in let b11 = b10 .before in
+    let b12 = b11 .before in let b13 = b12 .before in let b14 = b13 .before in let b15 = b14 .before in let b16 = b15 .before in
+    let b17 = b16 .before in let b18 = b17 .before in let b19 = b18 .before in let b20 = b19 .before in let b21 = b20 .before in
+    ((λ n. rw (b21 .c .given .1) (b12 .serve .ensures .0 n)), b12 .serve .ensures .1)
 
 returns-2 : tie.Need-returns-2
-returns-2 c = let a = c .before .before .before .before .before .before .before .before .before .before .before .args in let l : Lists = record { memory = now (a .memory); words = now (a .words); bytes = now (a .bytes); lines = now (a .lines); pointers = now (a .pointers); store = now (a .store) } in ((λ n. c .read .ensures l (now (a .entries)) n ∙ (rw (c .before .before .q2 .given .1) at (requested-done (machineOf l (now (a .entries)) (a .s) n) (a .c) _ (c .before .before .before .before .asked .ensures)))), c .before .before .before .before .before .before .before .before .before .before .before .pre .2 .fits .bytes-long)
+returns-2 c =
+    let b1 = c .before in let b2 = b1 .before in let b3 = b2 .before in let b4 = b3 .before in let b5 = b4 .before in let b6 = b5 .before in
+    let b7 = b6 .before in let b8 = b7 .before in let b9 = b8 .before in let b10 = b9 .before in
+    let a = b10 .args in ((λ n. rw (b2 .c2 .given .1) (c .read .ensures (lists (now (a .memory)) (now (a .words)) (now (a .bytes)) (now (a .lines)) (now (a .pointers)) (now (a .store))) (now (a .entries)) n)), b10 .pre .2 .fits .bytes-long)
 
 same-length-7 : tie.Need-same-length-7
 same-length-7 c = search needs
@@ -74,18 +80,23 @@ same-length-11 : tie.Need-same-length-11
 same-length-11 c = search needs
 
 returns-3 : tie.Need-returns-3
-returns-3 c = let a = c .before .before .before .before .before .before .before .before .before .before .before .before .before .before .before .before .before .before .before .before .before .before .before .before .before .args in let l : Lists = record { memory = now (a .memory); words = now (a .words); bytes = now (a .bytes); lines = now (a .lines); pointers = now (a .pointers); store = now (a .store) } in ((λ n. c .before .before .before .before .before .before .before .before .write .ensures .0 (now (a .pointers)) n ∙ (rw (c .before .before .before .before .before .before .before .before .before .before .before .before .before .before .before .before .q3 .given .1) at (requested-done (machineOf l (now (a .entries)) (a .s) n) (a .c) _ (c .before .before .before .before .before .before .before .before .before .before .before .before .before .before .before .before .before .before .asked .ensures)))), c .before .before .before .before .before .before .before .before .write .ensures .1)
+returns-3 c =
+    let b1 = c .before in let b2 = b1 .before in let b3 = b2 .before in let b4 = b3 .before in let b5 = b4 .before in let b6 = b5 .before in
+    let b7 = b6 .before in let b8 = b7 .before in let b9 = b8 .before in let b10 = b9 .before in let b11 = b10 .before in
+    let b12 = b11 .before in let b13 = b12 .before in let b14 = b13 .before in let b15 = b14 .before in let b16 = b15 .before in
+    let b17 = b16 .before in let b18 = b17 .before in let b19 = b18 .before in let b20 = b19 .before in let b21 = b20 .before in
+    let b22 = b21 .before in let b23 = b22 .before in let b24 = b23 .before in
+    let a = b24 .args in ((λ n. rw (b16 .c3 .given .1) (b8 .write .ensures .0 (now (a .pointers)) n)), b8 .write .ensures .1)
 
 pub done-spec : {M : Type 1} → statement M
 done-spec =
     tie.close
     (tie.spec
-    asked-requires
-    enum-known-q
+    enum-known-c
     serve-requires
-    enum-known-q-2
+    enum-known-c-2
     read-requires
-    enum-known-q-3
+    enum-known-c-3
     write-requires
     same-length
     same-length-2

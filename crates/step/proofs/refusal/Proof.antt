@@ -1,73 +1,50 @@
 use borrow.Author.Needs.{needs}
 use Rattle.step.proofs.refusal.Statement.{statement}
 use Rattle.step.proofs.refusal.Tie as tie
-use Rattle.step.proofs.refusal.Reads as reads
-use Rattle.step.proofs.refusal.Lts as lts
-use Rattle.registers.proofs.call_refusal.Reads as call-refusal-reads
-use Rattle.translation.proofs.load_refusal.Reads as load-refusal-reads
-use Rattle.translation.proofs.store_refusal.Reads as store-refusal-reads
 
 enum-known-c : tie.Need-enum-known-c
 enum-known-c c = search needs
 
-load-refusal-requires : tie.Need-load-refusal-requires
-load-refusal-requires c κs = search needs
+access-refusal-requires : tie.Need-access-refusal-requires
+access-refusal-requires c κs = search needs
 
 enum-known-c-2 : tie.Need-enum-known-c-2
 enum-known-c-2 c = search needs
 
-load-refusal-requires-2 : tie.Need-load-refusal-requires-2
-load-refusal-requires-2 c κs = search needs
-
-enum-known-c-3 : tie.Need-enum-known-c-3
-enum-known-c-3 c = search needs
-
-store-refusal-requires : tie.Need-store-refusal-requires
-store-refusal-requires c κs = search needs
-
-enum-known-c-4 : tie.Need-enum-known-c-4
-enum-known-c-4 c = search needs
-
 call-refusal-requires : tie.Need-call-refusal-requires
 call-refusal-requires c κs = search needs
 
-enum-known-c-5 : tie.Need-enum-known-c-5
-enum-known-c-5 c = search needs
+enum-known-c-3 : tie.Need-enum-known-c-3
+enum-known-c-3 c = search needs
 
 call-refusal-requires-2 : tie.Need-call-refusal-requires-2
 call-refusal-requires-2 c κs = search needs
 
 returns : tie.Need-returns
-returns c = rw (c .before .before .c .given .1) (c .load-refusal .ensures)
+returns c =
+    let b1 = c .before in let b2 = b1 .before in
+    rw (b2 .c .given .1) (c .access-refusal .ensures)
 
 returns-2 : tie.Need-returns-2
-returns-2 c = rw (c .before .before .c2 .given .1) (c .load-refusal2 .ensures)
+returns-2 c =
+    let b1 = c .before in let b2 = b1 .before in
+    rw (b2 .c2 .given .1) (c .call-refusal .ensures)
 
 returns-3 : tie.Need-returns-3
-returns-3 c = rw (c .before .before .c3 .given .1) (c .store-refusal .ensures)
-
-returns-4 : tie.Need-returns-4
-returns-4 c = rw (c .before .before .c4 .given .1) (c .call-refusal .ensures)
-
-returns-5 : tie.Need-returns-5
-returns-5 c = rw (c .before .before .c5 .given .1) (c .call-refusal2 .ensures)
+returns-3 c =
+    let b1 = c .before in let b2 = b1 .before in
+    rw (b2 .c3 .given .1) (c .call-refusal2 .ensures)
 
 pub refusal-spec : {M : Type 1} → statement M
 refusal-spec =
     tie.close
     (tie.spec
     enum-known-c
-    load-refusal-requires
+    access-refusal-requires
     enum-known-c-2
-    load-refusal-requires-2
-    enum-known-c-3
-    store-refusal-requires
-    enum-known-c-4
     call-refusal-requires
-    enum-known-c-5
+    enum-known-c-3
     call-refusal-requires-2
     returns
     returns-2
-    returns-3
-    returns-4
-    returns-5)
+    returns-3)

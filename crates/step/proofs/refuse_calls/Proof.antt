@@ -7,10 +7,6 @@ use native.Mathlib.Omega.{arith}
 use denote.Ref.{now}
 use Rattle.step.proofs.refuse_calls.Statement.{statement}
 use Rattle.step.proofs.refuse_calls.Tie as tie
-use Rattle.step.proofs.refuse_calls.Reads as reads
-use Rattle.step.proofs.refuse_calls.Lts as lts
-use Rattle.trace.proofs.code.Reads as code-reads
-use Rattle.trace.proofs.is_call_at.Reads as is-call-at-reads
 
 abbrev Inv-loop : tie.InvT-loop
 Inv-loop calls answers₀ n refusal i₀ answers i = Refusing calls answers₀ n refusal answers i
@@ -19,25 +15,33 @@ abbrev μ-loop : tie.MeasureT-loop
 μ-loop calls answers₀ n refusal i₀ answers i = n - i
 
 loop-holds : tie.Need-loop-holds Inv-loop μ-loop
-loop-holds c = let a = c .before .before .args in refusing-start (now (a .calls)) (now (a .answers)) (a .n) (a .refusal) (c .before .before .pre .0) (c .before .before .pre .1)
+loop-holds c = let start = c .before .before in
+    let a = start .args in refusing-start (now (a .calls)) (now (a .answers)) (a .n) (a .refusal) (start .pre)
 
 is-call-at-requires : tie.Need-is-call-at-requires Inv-loop μ-loop
-is-call-at-requires c κs = omega (arith, c .before .before .before .before .pre .0 .calls-hold)
+is-call-at-requires c κs = omega (arith, c .before .before .before .before .pre .calls-hold)
 
 same-length : tie.Need-same-length Inv-loop μ-loop
 same-length c = c .before .before .before .loop .inv .long
 
 returns : tie.Need-returns Inv-loop μ-loop
-returns c = let a = c .before .before .before .before .before .before .args in let l = c .before .before .before .loop in λ m e. refusing-stop (now (a .calls)) (now (a .answers)) (a .n) (a .refusal) (c .before .before .before .before .before .before .pre .0) (c .before .before .before .before .before .before .pre .1) (l .answers) (l .i) (l .inv) m e (c .before .before .loop-test .taken) (sym (c .before .is-call-at .ensures) ∙ not-true _ (c .if1 .taken))
+returns c = let after-is-call-at = c .before in
+    let in-loop = after-is-call-at .before in
+    let at-loop = in-loop .before in
+    let start = at-loop .before .before .before in
+    let a = start .args in let l = at-loop .loop in refusing-stop (now (a .calls)) (now (a .answers)) (a .n) (a .refusal) (start .pre) (l .answers) (l .i) (l .inv) (in-loop .loop-test .taken) (sym (after-is-call-at .is-call-at .ensures) ∙ not-true _ (c .if1 .taken))
 
 code-requires : tie.Need-code-requires Inv-loop μ-loop
 code-requires c κs = search needs
 
 mul-answers : tie.Need-mul-answers Inv-loop μ-loop
-mul-answers c = omega (arith, c .before .before .before .before .before .before .before .good .1 .0, c .before .before .before .before .before .before .before .pre .0 .answers-hold)
+mul-answers c = let start = c .before .before .before .before .before .before .before in
+    omega (arith, start .good .1 .0, start .pre .answers-hold)
 
 slice-write-answers : tie.Need-slice-write-answers Inv-loop μ-loop
-slice-write-answers c = omega (arith, c .before .before .before .before .before .before .before .pre .0 .answers-hold, c .before .before .before .before .loop .inv .long)
+slice-write-answers c = let at-loop = c .before .before .before .before in
+    let start = at-loop .before .before .before in
+    omega (arith, start .pre .answers-hold, at-loop .loop .inv .long)
 
 add-i : tie.Need-add-i Inv-loop μ-loop
 add-i c = omega (arith, c .before .before .before .before .before .before .before .fits .n)
@@ -46,13 +50,20 @@ loop-less : tie.Need-loop-less Inv-loop μ-loop
 loop-less c = search needs
 
 loop-again : tie.Need-loop-again Inv-loop μ-loop
-loop-again c = let a = c .before .before .before .before .before .before .before .args in let l = c .before .before .before .before .loop in refusing-on (now (a .calls)) (now (a .answers)) (a .n) (a .refusal) (c .before .before .before .before .before .before .before .pre .0) (c .before .before .before .before .before .before .before .pre .1) (l .answers) (l .i) (l .inv) (c .code .result) (c .before .before .before .loop-test .taken) (sym (c .before .before .is-call-at .ensures) ∙ not-false _ (c .before .if1 .left)) (c .code .ensures)
+loop-again c = let else1 = c .before in
+    let after-is-call-at = else1 .before in
+    let in-loop = after-is-call-at .before in
+    let at-loop = in-loop .before in
+    let start = at-loop .before .before .before in
+    let a = start .args in let l = at-loop .loop in refusing-on (now (a .calls)) (now (a .answers)) (a .n) (a .refusal) (start .pre) (l .answers) (l .i) (l .inv) (c .code .result) (in-loop .loop-test .taken) (sym (after-is-call-at .is-call-at .ensures) ∙ not-false _ (else1 .if1 .left)) (c .code .ensures)
 
 same-length-2 : tie.Need-same-length-2 Inv-loop μ-loop
 same-length-2 c = c .before .loop .inv .long
 
 returns-2 : tie.Need-returns-2 Inv-loop μ-loop
-returns-2 c = let a = c .before .before .before .before .args in let l = c .before .loop in λ m e. refusing-end (now (a .calls)) (now (a .answers)) (a .n) (a .refusal) (c .before .before .before .before .pre .0) (c .before .before .before .before .pre .1) (l .answers) (l .i) (l .inv) m e (c .loop-test .left)
+returns-2 c = let at-loop = c .before in
+    let start = at-loop .before .before .before in
+    let a = start .args in let l = at-loop .loop in refusing-end (now (a .calls)) (now (a .answers)) (a .n) (a .refusal) (start .pre) (l .answers) (l .i) (l .inv) (c .loop-test .left)
 
 pub refuse-calls-spec : {M : Type 1} → statement M
 refuse-calls-spec =

@@ -5,26 +5,22 @@ use borrow.Author.Tests.{not-true, not-false}
 use mathlib.Core.Path.{sym, _∙_}
 use native.Mathlib.Omega.{arith}
 use denote.Ref.{now}
-use Rattle.access.specs.Code.{Lists}
 use Rattle.step.proofs.run_calls.Statement.{statement}
 use Rattle.step.proofs.run_calls.Tie as tie
-use Rattle.step.proofs.run_calls.Reads as reads
-use Rattle.step.proofs.run_calls.Lts as lts
-use Rattle.step.proofs.step.Reads as step-reads
-use Rattle.trace.proofs.call_at.Reads as call-at-reads
-use Rattle.trace.proofs.code.Reads as code-reads
-use Rattle.trace.proofs.is_call_at.Reads as is-call-at-reads
+use Rattle.machine.specs.Lists.{Lists}
+use Rattle.machine.specs.Lists.{lists}
 
 abbrev Inv-loop : tie.InvT-loop
 Inv-loop table memory₀ words₀ bytes₀ lines₀ pointers₀ store₀ entries₀ calls answers₀ n s₀ i₀ memory words bytes lines pointers store entries answers s i =
-    Going (record { memory = memory₀; words = words₀; bytes = bytes₀; lines = lines₀; pointers = pointers₀; store = store₀ }) entries₀ calls answers₀ s₀ n (record { memory = memory; words = words; bytes = bytes; lines = lines; pointers = pointers; store = store }) entries answers s i
+    Going (lists memory₀ words₀ bytes₀ lines₀ pointers₀ store₀) entries₀ calls answers₀ s₀ n (lists memory words bytes lines pointers store) entries answers s i
 
 abbrev μ-loop : tie.MeasureT-loop
 μ-loop table memory₀ words₀ bytes₀ lines₀ pointers₀ store₀ entries₀ calls answers₀ n s₀ i₀ memory words bytes lines pointers store entries answers s i =
     n - i
 
 loop-holds : tie.Need-loop-holds Inv-loop μ-loop
-loop-holds c = let a = c .before .before .before .before .before .before .before .before .args in going-start (record { memory = now (a .memory); words = now (a .words); bytes = now (a .bytes); lines = now (a .lines); pointers = now (a .pointers); store = now (a .store) }) (now (a .entries)) (now (a .calls)) (now (a .answers)) (a .first) (a .n) (c .before .before .before .before .before .before .before .before .pre .3) (c .before .before .before .before .before .before .before .before .pre .1) (c .before .before .before .before .before .before .before .before .pre .2) (c .before .before .before .before .before .before .before .before .pre .4)
+loop-holds c = let start = c .before .before .before .before .before .before .before .before in
+    let a = start .args in going-start (lists (now (a .memory)) (now (a .words)) (now (a .bytes)) (now (a .lines)) (now (a .pointers)) (now (a .store))) (now (a .entries)) (now (a .calls)) (now (a .answers)) (a .first) (a .n) (start .pre .3) (start .pre .1) (start .pre .2) (start .pre .4)
 
 is-call-at-requires : tie.Need-is-call-at-requires Inv-loop μ-loop
 is-call-at-requires c κs = omega (arith, c .before .before .before .before .before .before .before .before .before .before .pre .3 .calls-hold)
@@ -51,17 +47,23 @@ same-length-7 : tie.Need-same-length-7 Inv-loop μ-loop
 same-length-7 c = c .before .before .before .loop .inv .long
 
 returns : tie.Need-returns Inv-loop μ-loop
-returns c = let a = c .before .before .before .before .before .before .before .before .before .before .before .before .args in
-    let l = c .before .before .before .loop in
-    going-stop (record { memory = now (a .memory); words = now (a .words); bytes = now (a .bytes); lines = now (a .lines); pointers = now (a .pointers); store = now (a .store) }) (now (a .entries)) (now (a .calls)) (now (a .answers)) (a .first) (a .n) (c .before .before .before .before .before .before .before .before .before .before .before .before .pre .3) (record { memory = l .memory; words = l .words; bytes = l .bytes; lines = l .lines; pointers = l .pointers; store = l .store }) (l .entries) (l .answers) (l .s) (l .i) (l .inv) (c .before .before .loop-test .taken) (sym (c .before .is-call-at .ensures) ∙ not-true _ (c .if1 .taken))
+returns c = let after-is-call-at = c .before in
+    let in-loop = after-is-call-at .before in
+    let at-loop = in-loop .before in
+    let start = at-loop .before .before .before .before .before .before .before .before .before in
+    let a = start .args in
+    let l = at-loop .loop in
+    going-stop (lists (now (a .memory)) (now (a .words)) (now (a .bytes)) (now (a .lines)) (now (a .pointers)) (now (a .store))) (now (a .entries)) (now (a .calls)) (now (a .answers)) (a .first) (a .n) (start .pre .3) (lists (l .memory) (l .words) (l .bytes) (l .lines) (l .pointers) (l .store)) (l .entries) (l .answers) (l .s) (l .i) (l .inv) (in-loop .loop-test .taken) (sym (after-is-call-at .is-call-at .ensures) ∙ not-true _ (c .if1 .taken))
 
 call-at-requires : tie.Need-call-at-requires Inv-loop μ-loop
 call-at-requires c κs = omega (arith, c .before .before .before .before .before .before .before .before .before .before .before .before .pre .3 .calls-hold)
 
 step-requires : tie.Need-step-requires Inv-loop μ-loop
-step-requires c κs = let a = c .before .before .before .before .before .before .before .before .before .before .before .before .before .before .before .before .before .before .before .before .args in
-    let l = c .before .before .before .before .before .before .before .before .before .before .before .loop in
-    (c .before .before .before .before .before .before .before .before .before .before .before .before .before .before .before .before .before .before .before .before .pre .0, l .inv .words-long, l .inv .bytes-long, serves-now (record { memory = now (a .memory); words = now (a .words); bytes = now (a .bytes); lines = now (a .lines); pointers = now (a .pointers); store = now (a .store) }) (now (a .entries)) (now (a .calls)) (now (a .answers)) (a .first) (a .n) (c .before .before .before .before .before .before .before .before .before .before .before .before .before .before .before .before .before .before .before .before .pre .3) (record { memory = l .memory; words = l .words; bytes = l .bytes; lines = l .lines; pointers = l .pointers; store = l .store }) (l .entries) (l .answers) (l .s) (l .i) (l .inv))
+step-requires c κs = let at-loop = c .before .before .before .before .before .before .before .before .before .before .before in
+    let start = at-loop .before .before .before .before .before .before .before .before .before in
+    let a = start .args in
+    let l = at-loop .loop in
+    (start .pre .0, l .inv .words-long, l .inv .bytes-long, serves-now (lists (now (a .memory)) (now (a .words)) (now (a .bytes)) (now (a .lines)) (now (a .pointers)) (now (a .store))) (now (a .entries)) (now (a .calls)) (now (a .answers)) (a .first) (a .n) (start .pre .3) (lists (l .memory) (l .words) (l .bytes) (l .lines) (l .pointers) (l .store)) (l .entries) (l .answers) (l .s) (l .i) (l .inv))
 
 code-requires : tie.Need-code-requires Inv-loop μ-loop
 code-requires c κs = search needs
@@ -79,12 +81,21 @@ loop-less : tie.Need-loop-less Inv-loop μ-loop
 loop-less c = search needs
 
 loop-again : tie.Need-loop-again Inv-loop μ-loop
-loop-again c = let a = c .before .before .before .before .before .before .before .before .before .before .before .before .before .before .before .before .before .before .before .before .before .before .before .before .before .before .before .before .before .before .before .before .before .before .before .args in
-    let l = c .before .before .before .before .before .before .before .before .before .before .before .before .before .before .before .before .before .before .before .before .before .before .before .before .before .before .loop in
-    let st = c .before .before .before .before .before .before .before .before .before .before .before .before .before .before .step in
-    let k : Lists = record { memory = st .last .1 .0; words = st .last .1 .1 .0; bytes = st .last .1 .1 .1 .0; lines = st .last .1 .1 .1 .1 .0; pointers = st .last .1 .1 .1 .1 .1 .0; store = st .last .1 .1 .1 .1 .1 .1 .0 } in
-    let y : SameLengths (record { memory = l .memory; words = l .words; bytes = l .bytes; lines = l .lines; pointers = l .pointers; store = l .store }) k (l .entries) (st .last .1 .1 .1 .1 .1 .1 .1 .0) = record { memory = st .kept .1 .0; words = st .kept .1 .1 .0; lines = st .kept .1 .1 .1 .1 .0; pointers = st .kept .1 .1 .1 .1 .1 .0; store = st .kept .1 .1 .1 .1 .1 .1 .0; entries = st .kept .1 .1 .1 .1 .1 .1 .1 .0 } in
-    going-on (record { memory = now (a .memory); words = now (a .words); bytes = now (a .bytes); lines = now (a .lines); pointers = now (a .pointers); store = now (a .store) }) (now (a .entries)) (now (a .calls)) (now (a .answers)) (a .first) (a .n) (c .before .before .before .before .before .before .before .before .before .before .before .before .before .before .before .before .before .before .before .before .before .before .before .before .before .before .before .before .before .before .before .before .before .before .before .pre .3) (record { memory = l .memory; words = l .words; bytes = l .bytes; lines = l .lines; pointers = l .pointers; store = l .store }) (l .entries) (l .answers) (l .s) (l .i) (l .inv) k (st .last .1 .1 .1 .1 .1 .1 .1 .0) (st .result) (c .before .before .before .before .before .before .before .before .before .before .before .before .before .before .before .before .before .before .before .before .before .before .call-at .result) (c .before .code .result) (c .before .before .before .before .before .before .before .before .before .before .before .before .before .before .before .before .before .before .before .before .before .before .before .before .before .loop-test .taken) (sym (c .before .before .before .before .before .before .before .before .before .before .before .before .before .before .before .before .before .before .before .before .before .before .before .before .is-call-at .ensures) ∙ not-false _ (c .before .before .before .before .before .before .before .before .before .before .before .before .before .before .before .before .before .before .before .before .before .before .before .if1 .left)) (c .before .before .before .before .before .before .before .before .before .before .before .before .before .before .before .before .before .before .before .before .before .before .call-at .ensures) (numbers-of _ _ _ _ _ (omega (arith, c .before .before .before .before .before .before .before .before .before .before .before .before .before .before .before .before .before .before .before .before .before .before .before .before .before .before .before .before .shared-slice-known .given (l .i * 5 + 3))) (omega (arith, c .before .before .before .before .before .before .before .before .before .before .before .before .before .before .before .before .before .before .before .before .before .before .before .before .before .before .before .before .shared-slice-known .given (l .i * 5 + 4)))) (st .ensures .0) y (st .ensures .1) (c .before .code .ensures)
+loop-again c = let after-code = c .before in
+    let after-step = after-code .before .before .before .before .before .before .before .before .before .before .before .before .before in
+    let after-call-at = after-step .before .before .before .before .before .before .before .before in
+    let else1 = after-call-at .before in
+    let after-is-call-at = else1 .before in
+    let in-loop = after-is-call-at .before in
+    let at-loop = in-loop .before in
+    let after-shared-slice-known = at-loop .before .before in
+    let start = after-shared-slice-known .before .before .before .before .before .before .before in
+    let a = start .args in
+    let l = at-loop .loop in
+    let st = after-step .step in
+    let k : Lists = (lists (st .last .1 .0) (st .last .1 .1 .0) (st .last .1 .1 .1 .0) (st .last .1 .1 .1 .1 .0) (st .last .1 .1 .1 .1 .1 .0) (st .last .1 .1 .1 .1 .1 .1 .0)) in
+    let y : SameLengths (lists (l .memory) (l .words) (l .bytes) (l .lines) (l .pointers) (l .store)) k (l .entries) (st .last .1 .1 .1 .1 .1 .1 .1 .0) = record { memory = st .kept .1 .0; words = st .kept .1 .1 .0; lines = st .kept .1 .1 .1 .1 .0; pointers = st .kept .1 .1 .1 .1 .1 .0; store = st .kept .1 .1 .1 .1 .1 .1 .0; entries = st .kept .1 .1 .1 .1 .1 .1 .1 .0 } in
+    going-on (lists (now (a .memory)) (now (a .words)) (now (a .bytes)) (now (a .lines)) (now (a .pointers)) (now (a .store))) (now (a .entries)) (now (a .calls)) (now (a .answers)) (a .first) (a .n) (start .pre .3) (lists (l .memory) (l .words) (l .bytes) (l .lines) (l .pointers) (l .store)) (l .entries) (l .answers) (l .s) (l .i) (l .inv) k (st .last .1 .1 .1 .1 .1 .1 .1 .0) (st .result) (after-call-at .call-at .result) (after-code .code .result) (in-loop .loop-test .taken) (sym (after-is-call-at .is-call-at .ensures) ∙ not-false _ (else1 .if1 .left)) (after-call-at .call-at .ensures) (numbers-of _ _ _ _ _ (omega (arith, after-shared-slice-known .shared-slice-known .given (l .i * 5 + 3))) (omega (arith, after-shared-slice-known .shared-slice-known .given (l .i * 5 + 4)))) (st .ensures .0) y (st .ensures .1) (after-code .code .ensures)
 
 same-length-8 : tie.Need-same-length-8 Inv-loop μ-loop
 same-length-8 c = c .before .loop .inv .same .memory
@@ -108,9 +119,11 @@ same-length-14 : tie.Need-same-length-14 Inv-loop μ-loop
 same-length-14 c = c .before .loop .inv .long
 
 returns-2 : tie.Need-returns-2 Inv-loop μ-loop
-returns-2 c = let a = c .before .before .before .before .before .before .before .before .before .before .args in
-    let l = c .before .loop in
-    going-end (record { memory = now (a .memory); words = now (a .words); bytes = now (a .bytes); lines = now (a .lines); pointers = now (a .pointers); store = now (a .store) }) (now (a .entries)) (now (a .calls)) (now (a .answers)) (a .first) (a .n) (c .before .before .before .before .before .before .before .before .before .before .pre .3) (record { memory = l .memory; words = l .words; bytes = l .bytes; lines = l .lines; pointers = l .pointers; store = l .store }) (l .entries) (l .answers) (l .s) (l .i) (l .inv) (c .loop-test .left)
+returns-2 c = let at-loop = c .before in
+    let start = at-loop .before .before .before .before .before .before .before .before .before in
+    let a = start .args in
+    let l = at-loop .loop in
+    going-end (lists (now (a .memory)) (now (a .words)) (now (a .bytes)) (now (a .lines)) (now (a .pointers)) (now (a .store))) (now (a .entries)) (now (a .calls)) (now (a .answers)) (a .first) (a .n) (start .pre .3) (lists (l .memory) (l .words) (l .bytes) (l .lines) (l .pointers) (l .store)) (l .entries) (l .answers) (l .s) (l .i) (l .inv) (c .loop-test .left)
 
 pub run-calls-spec : {M : Type 1} → statement M
 run-calls-spec =

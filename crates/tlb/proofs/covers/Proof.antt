@@ -1,12 +1,8 @@
 use mathlib.Core.Path.{sym}
-use Prim.Native.Nat.{_-_}
-use Rattle.tlb.specs.Tlb as spec
 use Rattle.tlb.proofs.Laws.{covers-invalid, covers-section, covers-large, covers-small}
 use borrow.Author.Needs.{needs}
 use Rattle.tlb.proofs.covers.Statement.{statement}
 use Rattle.tlb.proofs.covers.Tie as tie
-use Rattle.tlb.proofs.covers.Reads as reads
-use Rattle.tlb.proofs.covers.Lts as lts
 
 returns : tie.Need-returns
 returns c = sym (covers-invalid _ _ (c .if1 .taken))
@@ -21,19 +17,29 @@ mul-result : tie.Need-mul-result
 mul-result c = search needs
 
 returns-2 : tie.Need-returns-2
-returns-2 c = sym (covers-section (c .before .before .before .args .va) (c .before .before .before .args .w) (c .before .before .if1 .left) (c .before .if2 .taken))
+returns-2 c = let then2 = c .before in
+    let else1 = then2 .before in
+    let start = else1 .before in
+    sym (covers-section (start .args .va) (start .args .w) (else1 .if1 .left) (then2 .if2 .taken))
 
 mul-result-2 : tie.Need-mul-result-2
 mul-result-2 c = search needs
 
 returns-3 : tie.Need-returns-3
-returns-3 c = sym (covers-large (c .before .before .before .before .args .va) (c .before .before .before .before .args .w) (c .before .before .before .if1 .left) (c .before .if3 .taken))
+returns-3 c = let then3 = c .before in
+    let else1 = then3 .before .before in
+    let start = else1 .before in
+    sym (covers-large (start .args .va) (start .args .w) (else1 .if1 .left) (then3 .if3 .taken))
 
 mul-result-3 : tie.Need-mul-result-3
 mul-result-3 c = search needs
 
 returns-4 : tie.Need-returns-4
-returns-4 c = sym (covers-small (c .before .before .before .before .args .va) (c .before .before .before .before .args .w) (c .before .before .before .if1 .left) (c .before .before .if2 .left) (c .before .if3 .left))
+returns-4 c = let else3 = c .before in
+    let else2 = else3 .before in
+    let else1 = else2 .before in
+    let start = else1 .before in
+    sym (covers-small (start .args .va) (start .args .w) (else1 .if1 .left) (else2 .if2 .left) (else3 .if3 .left))
 
 pub covers-spec : {M : Type 1} → statement M
 covers-spec =

@@ -6,14 +6,10 @@ use lib.ListN.{length, length-set}
 use denote.Ref.{now}
 use Rattle.values.proofs.InPlace.{Upto, upto-start}
 use Rattle.tlb.specs.Tlb.{keptOf}
-use Rattle.tlb.specs.Tlb as spec
 use Rattle.tlb.specs.Packing.{entriesOf}
 use Rattle.tlb.proofs.Laws.{entries-step, drop-end}
 use Rattle.tlb.proofs.drop_covering.Statement.{statement}
 use Rattle.tlb.proofs.drop_covering.Tie as tie
-use Rattle.tlb.proofs.drop_covering.Reads as reads
-use Rattle.tlb.proofs.drop_covering.Lts as lts
-use Rattle.tlb.proofs.kept.Reads as kept-reads
 
 abbrev Inv-loop : tie.InvT-loop
 Inv-loop entries₀ va i₀ entries i = (i ≤ 32) × (length entries ≡ 32) × Upto (keptOf va) (entriesOf entries₀) (entriesOf entries) i
@@ -46,16 +42,20 @@ loop-less : tie.Need-loop-less Inv-loop μ-loop
 loop-less c = search needs
 
 loop-again : tie.Need-loop-again Inv-loop μ-loop
-loop-again c = let l = c .before .before .before .loop in
-    let a = c .before .before .before .before .before .args in
+loop-again c = let at-loop = c .before .before .before in
+    let start = at-loop .before .before in
+    let l = at-loop .loop in
+    let a = start .args in
     (omega arith, simp length-set (l .inv .1), entries-step (keptOf (a .va)) (now (a .entries)) (l .entries) (l .i) (c .kept .result) (l .inv .2) (omega arith) (c .kept .ensures))
 
 same-length : tie.Need-same-length Inv-loop μ-loop
 same-length c = search needs
 
 returns : tie.Need-returns Inv-loop μ-loop
-returns c = let l = c .before .loop in
-    let a = c .before .before .before .args in
+returns c = let at-loop = c .before in
+    let start = at-loop .before .before in
+    let l = at-loop .loop in
+    let a = start .args in
     drop-end (now (a .entries)) (l .entries) (a .va) (l .i) (l .inv .2) (omega arith)
 
 pub drop-covering-spec : {M : Type 1} → statement M

@@ -1,13 +1,10 @@
 use mathlib.Core.Path.{_≡_}
 use native.Mathlib.Omega.{arith}
-use Prim.Native.Nat.{_-_, _/_, _%_}
-use Rattle.tlb.specs.Tlb as spec
+use Prim.Native.Nat.{_/_, _%_}
 use Rattle.tlb.specs.Packing.{entryOf}
 use borrow.Author.Needs.{needs}
 use Rattle.tlb.proofs.entry_of.Statement.{statement}
 use Rattle.tlb.proofs.entry_of.Tie as tie
-use Rattle.tlb.proofs.entry_of.Reads as reads
-use Rattle.tlb.proofs.entry_of.Lts as lts
 
 cast-t6 : tie.Need-cast-t6
 cast-t6 c = search needs

@@ -5,14 +5,11 @@ use Prim.Native.Nat.{_-_, _≤_}
 use lib.ListN.{length, length-set}
 use denote.Ref.{now}
 use Rattle.values.proofs.InPlace.{Upto, upto-start}
-use Rattle.tlb.specs.Tlb as spec
 use Rattle.tlb.specs.Packing.{entriesOf}
 use Rattle.tlb.proofs.Packing.{entry-zero}
 use Rattle.tlb.proofs.Laws.{entries-step, emptied, flush-end}
 use Rattle.tlb.proofs.flush.Statement.{statement}
 use Rattle.tlb.proofs.flush.Tie as tie
-use Rattle.tlb.proofs.flush.Reads as reads
-use Rattle.tlb.proofs.flush.Lts as lts
 
 abbrev Inv-loop : tie.InvT-loop
 Inv-loop entries₀ i₀ entries i = (i ≤ 32) × (length entries ≡ 32) × Upto emptied (entriesOf entries₀) (entriesOf entries) i
@@ -36,15 +33,19 @@ loop-less : tie.Need-loop-less Inv-loop μ-loop
 loop-less c = search needs
 
 loop-again : tie.Need-loop-again Inv-loop μ-loop
-loop-again c = let l = c .before .loop in
-    (omega arith, simp length-set (l .inv .1), entries-step emptied (now (c .before .before .args .entries)) (l .entries) (l .i) 0 (l .inv .2) (omega arith) entry-zero)
+loop-again c = let at-loop = c .before in
+    let start = at-loop .before in
+    let l = at-loop .loop in
+    (omega arith, simp length-set (l .inv .1), entries-step emptied (now (start .args .entries)) (l .entries) (l .i) 0 (l .inv .2) (omega arith) entry-zero)
 
 same-length : tie.Need-same-length Inv-loop μ-loop
 same-length c = search needs
 
 returns : tie.Need-returns Inv-loop μ-loop
-returns c = let l = c .before .loop in
-    flush-end (now (c .before .before .args .entries)) (l .entries) (l .i) (l .inv .2) (search needs) (omega arith)
+returns c = let at-loop = c .before in
+    let start = at-loop .before in
+    let l = at-loop .loop in
+    flush-end (now (start .args .entries)) (l .entries) (l .i) (l .inv .2) (search needs) (omega arith)
 
 pub flush-spec : {M : Type 1} → statement M
 flush-spec =

@@ -3,8 +3,6 @@ use Rattle.tlb.specs.Keyed.{keysOf}
 use borrow.Author.Needs.{needs}
 use Rattle.tlb.proofs.keys_of.Statement.{statement}
 use Rattle.tlb.proofs.keys_of.Tie as tie
-use Rattle.tlb.proofs.keys_of.Reads as reads
-use Rattle.tlb.proofs.keys_of.Lts as lts
 
 cast-page : tie.Need-cast-page
 cast-page c = search needs

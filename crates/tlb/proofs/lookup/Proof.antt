@@ -5,7 +5,7 @@ use Prim.Native.Nat.{_-_, _≤_}
 use lib.ListN.{drop}
 use denote.Ref.{now}
 use Rattle.values.specs.declared.VirtualAddress.{VirtualAddress}
-use Rattle.values.specs.Tests.{firstFrom}
+use Rattle.values.specs.Lists.{firstFrom}
 use Rattle.tlb.specs.Tlb.{covers}
 use Rattle.tlb.specs.Tlb as spec
 use Rattle.tlb.specs.Packing.{entriesOf}
@@ -13,10 +13,6 @@ use Rattle.tlb.specs.Keyed.{keysOf}
 use Rattle.tlb.proofs.Laws.{lookup-hit, lookup-on, lookup-end}
 use Rattle.tlb.proofs.lookup.Statement.{statement}
 use Rattle.tlb.proofs.lookup.Tie as tie
-use Rattle.tlb.proofs.lookup.Reads as reads
-use Rattle.tlb.proofs.lookup.Lts as lts
-use Rattle.tlb.proofs.has_key.Reads as has-key-reads
-use Rattle.tlb.proofs.keys_of.Reads as keys-of-reads
 
 abbrev Inv-loop : tie.InvT-loop
 Inv-loop entries k i₀ i =
@@ -48,20 +44,30 @@ loop-less : tie.Need-loop-less Inv-loop μ-loop
 loop-less c = search needs
 
 loop-again : tie.Need-loop-again Inv-loop μ-loop
-loop-again c = let a = c .before .before .before .before .before .before .before .args in
-    let l = c .before .before .before .before .loop in
-    (omega arith, λ va e. sym (lookup-on (now (a .entries)) va (l .i) (omega arith) (sym (c .before .has-key .ensures va e (c .before .before .before .before .before .before .before .pre .1 (l .i) (omega arith) .size)) ∙ c .if2 .left)) ∙ l .inv .1 va e)
+loop-again c = let after-has-key = c .before in
+    let at-loop = after-has-key .before .before .before in
+    let start = at-loop .before .before .before in
+    let a = start .args in
+    let l = at-loop .loop in
+    (omega arith, λ va e. sym (lookup-on (now (a .entries)) va (l .i) (omega arith) (sym (after-has-key .has-key .ensures va e (start .pre .1 (l .i) (omega arith) .size)) ∙ c .if2 .left)) ∙ l .inv .1 va e)
 
 returns : tie.Need-returns Inv-loop μ-loop
-returns c = let a = c .before .before .before .before .args in
-    let l = c .before .loop in
-    sym (lookup-end (now (a .entries)) (a .va) (l .i) (omega arith)) ∙ l .inv .1 (a .va) (c .before .before .keys-of .ensures)
+returns c = let at-loop = c .before in
+    let after-keys-of = at-loop .before in
+    let start = after-keys-of .before .before in
+    let a = start .args in
+    let l = at-loop .loop in
+    sym (lookup-end (now (a .entries)) (a .va) (l .i) (omega arith)) ∙ l .inv .1 (a .va) (after-keys-of .keys-of .ensures)
 
 returns-2 : tie.Need-returns-2 Inv-loop μ-loop
-returns-2 c = let a = c .before .before .before .before .before .before .before .args in
-    let l = c .before .before .before .before .loop in
-    let e = c .before .before .before .before .before .keys-of .ensures in
-    sym (lookup-hit (now (a .entries)) (a .va) (l .i) (omega arith) (sym (c .before .has-key .ensures (a .va) e (c .before .before .before .before .before .before .before .pre .1 (l .i) (omega arith) .size)) ∙ c .if2 .taken)) ∙ l .inv .1 (a .va) e
+returns-2 c = let after-has-key = c .before in
+    let at-loop = after-has-key .before .before .before in
+    let after-keys-of = at-loop .before in
+    let start = after-keys-of .before .before in
+    let a = start .args in
+    let l = at-loop .loop in
+    let e = after-keys-of .keys-of .ensures in
+    sym (lookup-hit (now (a .entries)) (a .va) (l .i) (omega arith) (sym (after-has-key .has-key .ensures (a .va) e (start .pre .1 (l .i) (omega arith) .size)) ∙ c .if2 .taken)) ∙ l .inv .1 (a .va) e
 
 pub lookup-spec : {M : Type 1} → statement M
 lookup-spec =

@@ -2,9 +2,6 @@ use Rattle.tlb.specs.Packing.{wordOf}
 use borrow.Author.Needs.{needs}
 use Rattle.tlb.proofs.word_of.Statement.{statement}
 use Rattle.tlb.proofs.word_of.Tie as tie
-use Rattle.tlb.proofs.word_of.Reads as reads
-use Rattle.tlb.proofs.word_of.Lts as lts
-use Rattle.values.proofs.bit_number.Reads as bit-number-reads
 
 cast-bases : tie.Need-cast-bases
 cast-bases c = search needs
@@ -83,7 +80,10 @@ add-result-4 c = search needs
 
 returns : tie.Need-returns
 unfolding wordOf
-returns c = rw (c .before .before .before .bit-number .ensures .0, c .before .before .bit-number2 .ensures .0, c .before .bit-number3 .ensures .0)
+returns c = let after-bit-number3 = c .before in
+    let after-bit-number2 = after-bit-number3 .before in
+    let after-bit-number = after-bit-number2 .before in
+    rw (after-bit-number .bit-number .ensures .0, after-bit-number2 .bit-number2 .ensures .0, after-bit-number3 .bit-number3 .ensures .0)
 
 pub word-of-spec : {M : Type 1} → statement M
 word-of-spec =

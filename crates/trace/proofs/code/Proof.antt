@@ -1,19 +1,13 @@
-use mathlib.Core.Path.{_≡_}
+use mathlib.Core.Path.{_≡_, _∙_, ap}
 use lib.IntN.{ℤ}
 use mir.Syntax.{w32}
 use mir.Val.{SFits}
 use Rattle.trace.specs.Codes.{unsignedOf}
-use mathlib.Core.Path.{_∙_, ap}
 use mir.Facts.{toZ-ofZ}
-use Rattle.trace.specs.Calls as spec
 use native.Mathlib.Omega.{arith}
 use borrow.Author.Needs.{needs}
 use Rattle.trace.proofs.code.Statement.{statement}
 use Rattle.trace.proofs.code.Tie as tie
-use Rattle.trace.proofs.code.Reads as reads
-use Rattle.trace.proofs.code.Lts as lts
-use Rattle.trace.proofs.unsigned.Reads as unsigned-reads
-use Rattle.values.proofs.status_number.Reads as status-number-reads
 
 enum-known-a : tie.Need-enum-known-a
 enum-known-a c = search needs
@@ -54,6 +48,9 @@ add-result-2 c = search needs
 enum-known-a-4 : tie.Need-enum-known-a-4
 enum-known-a-4 c = search needs
 
+mul-result-2 : tie.Need-mul-result-2
+mul-result-2 c = search needs
+
 cast-result-5 : tie.Need-cast-result-5
 cast-result-5 c = search needs
 
@@ -64,13 +61,14 @@ returns : tie.Need-returns
 returns c = rw (c .before .a .given .1) (omega arith)
 
 returns-2 : tie.Need-returns-2
-returns-2 c = let z : ℤ = c .before .before .a2 .given .0 .0 in
+returns-2 c = let arm = c .before .before in
+    let z : ℤ = arm .a2 .given .0 .0 in
     let f : SFits w32 z = search needs in
     let e : c .unsigned .result ≡ unsignedOf z = c .unsigned .ensures ∙ ap unsignedOf (toZ-ofZ f) in
-    rw (c .before .before .a2 .given .1) (omega arith)
+    rw (arm .a2 .given .1) (omega arith)
 
 returns-3 : tie.Need-returns-3
-returns-3 c = rw (c .before .before .before .a3 .given .1) (omega (arith, c .status-number .ensures .0))
+returns-3 c = let status = c .before in let arm = status .before .before in rw (arm .a3 .given .1) (omega (arith, c .status-number .ensures .0))
 
 returns-4 : tie.Need-returns-4
 returns-4 c = rw (c .before .a4 .given .1) (omega arith)
@@ -92,6 +90,7 @@ code-spec =
     cast-result-4
     add-result-2
     enum-known-a-4
+    mul-result-2
     cast-result-5
     add-result-3
     returns

@@ -1,10 +1,7 @@
-use Rattle.trace.specs.Calls as spec
 use borrow.Author.Tests.{le-leb, lt-leb}
 use borrow.Author.Needs.{needs}
 use Rattle.trace.proofs.is_call_at.Statement.{statement}
 use Rattle.trace.proofs.is_call_at.Tie as tie
-use Rattle.trace.proofs.is_call_at.Reads as reads
-use Rattle.trace.proofs.is_call_at.Lts as lts
 
 mul-at : tie.Need-mul-at
 mul-at c = search needs

@@ -1,10 +1,7 @@
-use Rattle.trace.specs.Calls as spec
 use Rattle.trace.proofs.Signs.{negative-cast, negative-size, negative-bits, positive-cast, positive-bits}
 use borrow.Author.Needs.{needs}
 use Rattle.trace.proofs.unsigned.Statement.{statement}
 use Rattle.trace.proofs.unsigned.Tie as tie
-use Rattle.trace.proofs.unsigned.Reads as reads
-use Rattle.trace.proofs.unsigned.Lts as lts
 
 cast-result : tie.Need-cast-result
 cast-result c = negative-cast (c .before .args .z) (search needs) (c .if1 .taken)

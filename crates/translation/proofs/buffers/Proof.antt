@@ -1,17 +1,9 @@
 use mathlib.Core.Path.{_≡_, sym, _∙_}
 use mathlib.Core.Bool.{true, false}
-use Prim.Native.Nat.{_-_}
 use Rattle.values.specs.Control.{mmu, writeBuffer}
-use Rattle.translation.specs.Alignment as aligned
-use Rattle.translation.specs.Translation as spec
-use Rattle.translation.specs.Faults as faults
 use borrow.Author.Needs.{needs}
 use Rattle.translation.proofs.buffers.Statement.{statement}
 use Rattle.translation.proofs.buffers.Tie as tie
-use Rattle.translation.proofs.buffers.Reads as reads
-use Rattle.translation.proofs.buffers.Lts as lts
-use Rattle.values.proofs.mmu.Reads as mmu-reads
-use Rattle.values.proofs.write_buffer.Reads as write-buffer-reads
 
 mmu-requires : tie.Need-mmu-requires
 mmu-requires c κs = search needs

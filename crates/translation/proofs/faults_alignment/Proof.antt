@@ -4,10 +4,6 @@ use mathlib.Core.Bool.{true, false}
 use borrow.Author.Needs.{needs}
 use Rattle.translation.proofs.faults_alignment.Statement.{statement}
 use Rattle.translation.proofs.faults_alignment.Tie as tie
-use Rattle.translation.proofs.faults_alignment.Reads as reads
-use Rattle.translation.proofs.faults_alignment.Lts as lts
-use Rattle.translation.proofs.is_misaligned.Reads as is-misaligned-reads
-use Rattle.values.proofs.alignment.Reads as alignment-reads
 
 alignment-requires : tie.Need-alignment-requires
 alignment-requires c κs = search needs

@@ -1,8 +1,6 @@
 use borrow.Author.Needs.{needs}
 use Rattle.translation.proofs.mapped_by.Statement.{statement}
 use Rattle.translation.proofs.mapped_by.Tie as tie
-use Rattle.translation.proofs.mapped_by.Reads as reads
-use Rattle.translation.proofs.mapped_by.Lts as lts
 
 enum-told : tie.Need-enum-told
 enum-told c = search needs

@@ -1,18 +1,11 @@
 use mathlib.Core.Path.{sym, _∙_, ap}
-use Prim.Native.Nat.{_-_}
 use denote.Ref.{now}
-use Rattle.translation.specs.Alignment as aligned
+use Rattle.bus.specs.Physical.{physical}
 use Rattle.translation.specs.Translation as spec
-use Rattle.translation.specs.Faults as faults
 use Rattle.translation.proofs.Laws.{walked-set, walked-clear}
 use borrow.Author.Needs.{needs}
 use Rattle.translation.proofs.walked_only.Statement.{statement}
 use Rattle.translation.proofs.walked_only.Tie as tie
-use Rattle.translation.proofs.walked_only.Reads as reads
-use Rattle.translation.proofs.walked_only.Lts as lts
-use Rattle.translation.proofs.of_walk.Reads as of-walk-reads
-use Rattle.values.proofs.mmu.Reads as mmu-reads
-use Rattle.walk.proofs.walk.Reads as walk-reads
 
 mmu-requires : tie.Need-mmu-requires
 mmu-requires c κs = search needs
@@ -24,13 +17,19 @@ of-walk-requires : tie.Need-of-walk-requires
 of-walk-requires c κs = c .walk .ensures .ranged
 
 returns : tie.Need-returns
-returns c = let a = c .before .before .before .before .before .args in
-    let e = walked-set (a .r) (now (a .memory)) (a .va) (sym (c .before .before .before .mmu .ensures) ∙ c .before .before .if1 .taken) in
-    record { same = c .of-walk .ensures .same ∙ ap spec.ofWalk (c .before .walk .ensures .same) ∙ sym e; ranged = c .of-walk .ensures .ranged }
+returns c = let after-walk = c .before in
+    let then1 = after-walk .before in
+    let after-mmu = then1 .before in
+    let start = after-mmu .before .before in
+    let a = start .args in
+    let e = walked-set (a .r) (physical (now (a .memory))) (a .va) (sym (after-mmu .mmu .ensures) ∙ then1 .if1 .taken) in
+    record { same = c .of-walk .ensures .same ∙ ap spec.ofWalk (after-walk .walk .ensures .same) ∙ sym e; ranged = c .of-walk .ensures .ranged }
 
 returns-2 : tie.Need-returns-2
-returns-2 c = let a = c .before .before .before .args in
-    record { same = sym (walked-clear (a .r) (now (a .memory)) (a .va) (sym (c .before .mmu .ensures) ∙ c .if1 .left)); ranged = search needs }
+returns-2 c = let after-mmu = c .before in
+    let start = after-mmu .before .before in
+    let a = start .args in
+    record { same = sym (walked-clear (a .r) (physical (now (a .memory))) (a .va) (sym (after-mmu .mmu .ensures) ∙ c .if1 .left)); ranged = search needs }
 
 pub walked-only-spec : {M : Type 1} → statement M
 walked-only-spec =

@@ -2,10 +2,6 @@ use Rattle.walk.specs.Walk.{second}
 use borrow.Author.Needs.{needs}
 use Rattle.walk.proofs.second_level.Statement.{statement}
 use Rattle.walk.proofs.second_level.Tie as tie
-use Rattle.walk.proofs.second_level.Reads as reads
-use Rattle.walk.proofs.second_level.Lts as lts
-use Rattle.walk.proofs.descriptor_of.Reads as descriptor-of-reads
-use Rattle.walk.proofs.level_two.Reads as level-two-reads
 
 mul-t9 : tie.Need-mul-t9
 mul-t9 c = search needs
@@ -29,7 +25,9 @@ enum-told : tie.Need-enum-told
 enum-told c = search needs
 
 returns : tie.Need-returns
-returns c = rw (← c .before .before .before .before .descriptor-of .ensures, c .before .before .d .given .1) (c .level-two .ensures)
+returns c = let after-d = c .before .before in
+    let after-descriptor-of = after-d .before .before in
+    rw (← after-descriptor-of .descriptor-of .ensures, after-d .d .given .1) (c .level-two .ensures)
 
 returns-2 : tie.Need-returns-2
 unfolding second

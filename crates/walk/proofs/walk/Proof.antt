@@ -4,10 +4,6 @@ use Rattle.walk.proofs.Laws.{walk-by}
 use borrow.Author.Needs.{needs}
 use Rattle.walk.proofs.walk.Statement.{statement}
 use Rattle.walk.proofs.walk.Tie as tie
-use Rattle.walk.proofs.walk.Reads as reads
-use Rattle.walk.proofs.walk.Lts as lts
-use Rattle.walk.proofs.descriptor_of.Reads as descriptor-of-reads
-use Rattle.walk.proofs.level_one.Reads as level-one-reads
 
 mul-t8 : tie.Need-mul-t8
 mul-t8 c = search needs
@@ -28,11 +24,16 @@ enum-told : tie.Need-enum-told
 enum-told c = search needs
 
 returns : tie.Need-returns
-returns c = rw (walk-by _ _ (c .before .before .before .before .before .before .before .args .va) _ (sym (c .before .before .before .before .descriptor-of .ensures) ∙ c .before .before .d .given .1)) (c .level-one .ensures)
+returns c = let after-d = c .before .before in
+    let after-descriptor-of = after-d .before .before in
+    let start = after-descriptor-of .before .before .before in
+    rw (walk-by _ _ (start .args .va) _ (sym (after-descriptor-of .descriptor-of .ensures) ∙ after-d .d .given .1)) (c .level-one .ensures)
 
 returns-2 : tie.Need-returns-2
 unfolding first
-returns-2 c = record { same = sym (walk-by _ _ (c .before .before .before .before .before .args .va) _ (sym (c .before .before .descriptor-of .ensures) ∙ c .enum-told .given .1)); ranged = search needs }
+returns-2 c = let after-descriptor-of = c .before .before in
+    let start = after-descriptor-of .before .before .before in
+    record { same = sym (walk-by _ _ (start .args .va) _ (sym (after-descriptor-of .descriptor-of .ensures) ∙ c .enum-told .given .1)); ranged = search needs }
 
 pub walk-spec : {M : Type 1} → statement M
 walk-spec =

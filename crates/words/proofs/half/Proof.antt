@@ -4,9 +4,6 @@ use Rattle.words.proofs.Laws.{two}
 use borrow.Author.Needs.{needs}
 use Rattle.words.proofs.half.Statement.{statement}
 use Rattle.words.proofs.half.Tie as tie
-use Rattle.words.proofs.half.Reads as reads
-use Rattle.words.proofs.half.Lts as lts
-use Rattle.words.proofs.byte.Reads as byte-reads
 
 byte-requires : tie.Need-byte-requires
 byte-requires c κs = search needs
@@ -24,8 +21,10 @@ add-result : tie.Need-add-result
 add-result c = search needs
 
 returns : tie.Need-returns
-returns c = let a = c .before .before .before .args in
-    record { value = rw (two (now (a .bytes)) (a .at), c .byte2 .ensures .0, c .before .byte .ensures .0); fits = omega arith }
+returns c = let after-byte = c .before in
+    let start = after-byte .before .before in
+    let a = start .args in
+    record { value = rw (two (now (a .bytes)) (a .at), c .byte2 .ensures .0, after-byte .byte .ensures .0); fits = omega arith }
 
 pub half-spec : {M : Type 1} → statement M
 half-spec =

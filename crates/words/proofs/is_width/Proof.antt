@@ -1,8 +1,6 @@
 use borrow.Author.Tests.{ne-eqb}
 use Rattle.words.proofs.is_width.Statement.{statement}
 use Rattle.words.proofs.is_width.Tie as tie
-use Rattle.words.proofs.is_width.Reads as reads
-use Rattle.words.proofs.is_width.Lts as lts
 
 returns : tie.Need-returns
 returns c = rw (c .if1 .taken)

@@ -6,8 +6,6 @@ use Rattle.words.proofs.Laws.{store-two}
 use borrow.Author.Needs.{needs}
 use Rattle.words.proofs.put_half.Statement.{statement}
 use Rattle.words.proofs.put_half.Tie as tie
-use Rattle.words.proofs.put_half.Reads as reads
-use Rattle.words.proofs.put_half.Lts as lts
 
 cast-bytes : tie.Need-cast-bytes
 cast-bytes c = search needs

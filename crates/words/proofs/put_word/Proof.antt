@@ -6,8 +6,6 @@ use Rattle.words.proofs.Laws.{store-four}
 use borrow.Author.Needs.{needs}
 use Rattle.words.proofs.put_word.Statement.{statement}
 use Rattle.words.proofs.put_word.Tie as tie
-use Rattle.words.proofs.put_word.Reads as reads
-use Rattle.words.proofs.put_word.Lts as lts
 
 cast-bytes : tie.Need-cast-bytes
 cast-bytes c = search needs

@@ -5,11 +5,6 @@ use Rattle.words.proofs.Widths.{is-one}
 use borrow.Author.Needs.{needs}
 use Rattle.words.proofs.signed.Statement.{statement}
 use Rattle.words.proofs.signed.Tie as tie
-use Rattle.words.proofs.signed.Reads as reads
-use Rattle.words.proofs.signed.Lts as lts
-use Rattle.words.proofs.signed_byte.Reads as signed-byte-reads
-use Rattle.words.proofs.signed_half.Reads as signed-half-reads
-use Rattle.words.proofs.signed_word.Reads as signed-word-reads
 
 signed-word-requires : tie.Need-signed-word-requires
 signed-word-requires c κs = search needs
@@ -24,10 +19,15 @@ returns-2 : tie.Need-returns-2
 returns-2 c = rw (c .before .if2 .taken) (toZ-ofZ (search needs) ∙ c .signed-half .ensures)
 
 signed-byte-requires : tie.Need-signed-byte-requires
-signed-byte-requires c κs = omega (arith, rw (is-one _ (c .before .before .pre .0) (c .before .if1 .left) (c .if2 .left)) at (c .before .before .pre .1))
+signed-byte-requires c κs = let else1 = c .before in
+    let start = else1 .before in
+    omega (arith, rw (is-one _ (start .pre .0) (else1 .if1 .left) (c .if2 .left)) at (start .pre .1))
 
 returns-3 : tie.Need-returns-3
-returns-3 c = rw (is-one _ (c .before .before .before .pre .0) (c .before .before .if1 .left) (c .before .if2 .left)) (toZ-ofZ (search needs) ∙ c .signed-byte .ensures)
+returns-3 c = let else2 = c .before in
+    let else1 = else2 .before in
+    let start = else1 .before in
+    rw (is-one _ (start .pre .0) (else1 .if1 .left) (else2 .if2 .left)) (toZ-ofZ (search needs) ∙ c .signed-byte .ensures)
 
 pub signed-spec : {M : Type 1} → statement M
 signed-spec =

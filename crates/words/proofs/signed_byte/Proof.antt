@@ -4,8 +4,6 @@ use Rattle.words.proofs.Signs.{positive, negative}
 use borrow.Author.Needs.{needs}
 use Rattle.words.proofs.signed_byte.Statement.{statement}
 use Rattle.words.proofs.signed_byte.Tie as tie
-use Rattle.words.proofs.signed_byte.Reads as reads
-use Rattle.words.proofs.signed_byte.Lts as lts
 
 cast-result : tie.Need-cast-result
 cast-result c = search needs

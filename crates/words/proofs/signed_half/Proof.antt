@@ -4,8 +4,6 @@ use Rattle.words.proofs.Signs.{positive, negative}
 use borrow.Author.Needs.{needs}
 use Rattle.words.proofs.signed_half.Statement.{statement}
 use Rattle.words.proofs.signed_half.Tie as tie
-use Rattle.words.proofs.signed_half.Reads as reads
-use Rattle.words.proofs.signed_half.Lts as lts
 
 cast-result : tie.Need-cast-result
 cast-result c = search needs

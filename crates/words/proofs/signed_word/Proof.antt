@@ -4,8 +4,6 @@ use Rattle.words.proofs.Signs.{positive, negative}
 use borrow.Author.Needs.{needs}
 use Rattle.words.proofs.signed_word.Statement.{statement}
 use Rattle.words.proofs.signed_word.Tie as tie
-use Rattle.words.proofs.signed_word.Reads as reads
-use Rattle.words.proofs.signed_word.Lts as lts
 
 cast-result : tie.Need-cast-result
 cast-result c = search needs
@@ -17,10 +15,10 @@ cast-result-2 : tie.Need-cast-result-2
 cast-result-2 c = search needs
 
 returns : tie.Need-returns
-returns c = positive 2147483648 _ (lit≤ tt) (c .if1 .taken)
+returns c = positive 0x80000000 _ (lit≤ tt) (c .if1 .taken)
 
 returns-2 : tie.Need-returns-2
-returns-2 c = negative 2147483648 _ (lit≤ tt) (c .if1 .left) (omega arith)
+returns-2 c = negative 0x80000000 _ (lit≤ tt) (c .if1 .left) (omega arith)
 
 pub signed-word-spec : {M : Type 1} → statement M
 signed-word-spec = tie.close (tie.spec cast-result sub-result cast-result-2 returns returns-2)

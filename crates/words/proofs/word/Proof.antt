@@ -4,9 +4,6 @@ use Rattle.words.proofs.Laws.{four}
 use borrow.Author.Needs.{needs}
 use Rattle.words.proofs.word.Statement.{statement}
 use Rattle.words.proofs.word.Tie as tie
-use Rattle.words.proofs.word.Reads as reads
-use Rattle.words.proofs.word.Lts as lts
-use Rattle.words.proofs.byte.Reads as byte-reads
 
 byte-requires : tie.Need-byte-requires
 byte-requires c κs = search needs
@@ -48,9 +45,13 @@ add-result-3 : tie.Need-add-result-3
 add-result-3 c = search needs
 
 returns : tie.Need-returns
-returns c = let a = c .before .before .before .before .before .args in
+returns c = let after-byte3 = c .before in
+    let after-byte2 = after-byte3 .before in
+    let after-byte = after-byte2 .before in
+    let start = after-byte .before .before in
+    let a = start .args in
     record {
-      value = rw (four (now (a .bytes)) (a .at), c .byte4 .ensures .0, c .before .byte3 .ensures .0, c .before .before .byte2 .ensures .0, c .before .before .before .byte .ensures .0);
+      value = rw (four (now (a .bytes)) (a .at), c .byte4 .ensures .0, after-byte3 .byte3 .ensures .0, after-byte2 .byte2 .ensures .0, after-byte .byte .ensures .0);
       fits = omega arith;
     }
 

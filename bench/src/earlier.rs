@@ -1,0 +1,130 @@
+//! An earlier library, out of a shared object, called as the linked one is.
+
+use sa110_compare::packed::{Cp15, Packed, State};
+use sa110_compare::side_by_side::{Numbers, Setting};
+use std::ffi::{c_char, c_int, c_void, CStr, CString};
+use std::mem::transmute;
+
+extern "C" {
+    fn dlopen(path: *const c_char, flags: c_int) -> *mut c_void;
+    fn dlsym(object: *mut c_void, name: *const c_char) -> *mut c_void;
+    fn dlerror() -> *const c_char;
+}
+
+/// RTLD_NOW of Linux; without RTLD_GLOBAL nothing else is bound to the object's symbols.
+const NOW: c_int = 2;
+
+type Call = unsafe extern "C" fn(
+    *mut State,
+    *mut Cp15,
+    *mut u8,
+    usize,
+    *mut u8,
+    usize,
+    u32,
+    u32,
+    u32,
+    u32,
+    u32,
+) -> u64;
+type Run = unsafe extern "C" fn(
+    *mut State,
+    *mut Cp15,
+    *mut u8,
+    usize,
+    *mut u8,
+    usize,
+    *const u32,
+    usize,
+    *mut u64,
+    usize,
+) -> usize;
+type Sound = unsafe extern "C" fn(*const State, *const Cp15, usize) -> u32;
+
+/// The functions of an earlier library. Its state has the layout of include/sa110.h.
+#[derive(Clone, Copy)]
+pub struct Earlier {
+    call: Call,
+    run: Run,
+    sound: Option<Sound>,
+}
+
+impl Earlier {
+    /// The library in a shared object. In one with names that end in `_lent` those have the state
+    /// lent; it has no soundness test of a lent state.
+    pub fn open(path: &str) -> Result<Earlier, String> {
+        let file = std::fs::canonicalize(path).map_err(|error| format!("{path}: {error}"))?;
+        let name = CString::new(file.as_os_str().as_encoded_bytes()).expect("a path has no 0");
+        let object = unsafe { dlopen(name.as_ptr(), NOW) };
+        if object.is_null() {
+            return Err(unsafe { CStr::from_ptr(dlerror()) }
+                .to_string_lossy()
+                .into_owned());
+        }
+        let symbol = |name: &CStr| {
+            let found = unsafe { dlsym(object, name.as_ptr()) };
+            (!found.is_null()).then_some(found)
+        };
+        let missing = |name| format!("{path} has no function {name}");
+        let lent = symbol(c"sa110_run_lent");
+        let (run, call, sound) = match lent {
+            Some(_) => (lent, symbol(c"sa110_call_lent"), None),
+            None => (
+                symbol(c"sa110_run"),
+                symbol(c"sa110_call"),
+                symbol(c"sa110_sound"),
+            ),
+        };
+        let run = run.ok_or_else(|| missing("sa110_run"))?;
+        let call = call.ok_or_else(|| missing("sa110_call"))?;
+        Ok(unsafe {
+            Earlier {
+                call: transmute::<*mut c_void, Call>(call),
+                run: transmute::<*mut c_void, Run>(run),
+                sound: sound.map(|f| transmute::<*mut c_void, Sound>(f)),
+            }
+        })
+    }
+
+    /// The test of refusal 3 for a memory of so many bytes, where the library has it.
+    pub fn soundness(&self) -> Option<impl Fn(&Packed, usize) -> bool> {
+        let sound = self.sound?;
+        Some(move |p: &Packed, n| unsafe { sound(&p.state, &p.cp15, n) == 1 })
+    }
+
+    pub fn call(&self, s: &mut Setting, numbers: &Numbers) -> u64 {
+        let [kind, privileged, n, a, v] = *numbers;
+        unsafe {
+            (self.call)(
+                &mut s.packed.state,
+                &mut s.packed.cp15,
+                s.memory.as_mut_ptr(),
+                s.memory.len(),
+                s.store.as_mut_ptr(),
+                s.store.len(),
+                kind,
+                privileged,
+                n,
+                a,
+                v,
+            )
+        }
+    }
+
+    pub fn run(&self, s: &mut Setting, calls: &[u32], answers: &mut [u64]) -> usize {
+        unsafe {
+            (self.run)(
+                &mut s.packed.state,
+                &mut s.packed.cp15,
+                s.memory.as_mut_ptr(),
+                s.memory.len(),
+                s.store.as_mut_ptr(),
+                s.store.len(),
+                calls.as_ptr(),
+                calls.len(),
+                answers.as_mut_ptr(),
+                answers.len(),
+            )
+        }
+    }
+}

@@ -1,0 +1,4 @@
+pub mod Machine
+pub mod Scalars
+pub mod Lists
+pub mod Ready

@@ -1,0 +1,115 @@
+// What the lent lists do not hold of the library's machine, and how each part of it changes.
+ghost use mathlib.Core.Path.{_≡_};
+ghost use Prim.Native.Nat.{_<_, _≤_, _+_};
+ghost use Rattle.values.specs.Counts as counts;
+ghost use Rattle.values.specs.Counts.{countLimit};
+ghost use Rattle.machine.specs.Scalars as spec;
+use values::Answer;
+use values::Count;
+use values::Counts;
+use values::Cp15;
+use values::Registers;
+
+// The parts of the state that are no list: the record, the counts, the number of buffer entries.
+pub struct Scalars {
+    pub cp15: Cp15,
+    pub counts: Counts,
+    pub used: usize,
+}
+
+// The scalars and an answer.
+pub struct Outcome {
+    pub scalars: Scalars,
+    pub answer: Answer,
+}
+
+// The scalars of a record, counts and a number of buffer entries.
+pub fn scalars_of(cp15: Cp15, counts: Counts, used: usize) -> Scalars
+    ensures { λ r. ⌜ r ≡ spec.scalarsFrom cp15 counts used ⌝ }
+{
+    Scalars { cp15, counts, used }
+}
+
+// One more call.
+pub fn counted(s: Scalars) -> Scalars
+    requires { ⌜ s .counts .calls < countLimit ⌝ }
+    ensures { λ r. ⌜ r ≡ spec.withCounts s (counts.counted (s .counts)) ⌝ }
+{
+    let n = s.counts.calls + 1;
+    let mut out = s;
+    out.counts.calls = n;
+    out
+}
+
+// One more TLB miss.
+pub fn missed(s: Scalars) -> Scalars
+    requires { ⌜ s .counts .misses < countLimit ⌝ }
+    ensures { λ r. ⌜ r ≡ spec.withCounts s (counts.missed (s .counts)) ⌝ }
+{
+    let n = s.counts.misses + 1;
+    let mut out = s;
+    out.counts.misses = n;
+    out
+}
+
+// One more Dcache hit.
+pub fn hit(s: Scalars) -> Scalars
+    requires { ⌜ s .counts .hits < countLimit ⌝ }
+    ensures { λ r. ⌜ r ≡ spec.withCounts s (counts.hit (s .counts)) ⌝ }
+{
+    let n = s.counts.hits + 1;
+    let mut out = s;
+    out.counts.hits = n;
+    out
+}
+
+// One more line fill.
+pub fn filled(s: Scalars) -> Scalars
+    requires { ⌜ s .counts .fills < countLimit ⌝ }
+    ensures { λ r. ⌜ r ≡ spec.withCounts s (counts.filled (s .counts)) ⌝ }
+{
+    let n = s.counts.fills + 1;
+    let mut out = s;
+    out.counts.fills = n;
+    out
+}
+
+// So many more halves sent out.
+pub fn sent(s: Scalars, halves: Count) -> Scalars
+    requires { ⌜ s .counts .halves + halves ≤ countLimit ⌝ }
+    ensures { λ r. ⌜ r ≡ spec.withCounts s (counts.sent (s .counts) halves) ⌝ }
+{
+    let n = s.counts.halves + halves;
+    let mut out = s;
+    out.counts.halves = n;
+    out
+}
+
+// So many buffer entries.
+pub fn with_used(s: Scalars, used: usize) -> Scalars
+    ensures { λ r. ⌜ r ≡ spec.withUsed s used ⌝ }
+{
+    let mut out = s;
+    out.used = used;
+    out
+}
+
+// These registers.
+pub fn with_registers(s: Scalars, r: Registers) -> Scalars
+    ensures { λ x. ⌜ x ≡ spec.withRegisters s r ⌝ }
+{
+    let mut cp15 = s.cp15;
+    cp15.registers = r;
+    let mut out = s;
+    out.cp15 = cp15;
+    out
+}
+
+// This TLB pointer.
+pub fn with_pointer(s: Scalars, pointer: u32) -> Scalars
+    ensures { λ r. ⌜ r ≡ spec.withPointer s pointer ⌝ }
+{
+    let mut out = s;
+    out.cp15.pointer = pointer;
+    out
+}

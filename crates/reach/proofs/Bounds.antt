@@ -1,0 +1,37 @@
+-- Where an access lies: in one block of sixteen bytes, so in one line; and which lines a search finds.
+use Prim.Native.Nat.{ℕ, _+_, _%_, _<_, _≤_}
+use native.Mathlib.Omega.{arith}
+use mathlib.Core.Bool.{true}
+use mathlib.Core.Path.{_≡_, refl}
+use mathlib.Core.List.{List}
+use lib.Dec.{eqb}
+use lib.ListN.{length}
+use borrow.Author.Tests.{eqb-true, eqb-false}
+use Rattle.values.specs.declared.Access.{Access}
+use Rattle.values.proofs.Cases.{case}
+use Rattle.values.specs.declared.VirtualAddress.{VirtualAddress}
+use Rattle.values.specs.declared.Search.the-variants.{At}
+use Rattle.cache.specs.Dcache.{find}
+use Rattle.cache.specs.Packing.{linesOf}
+use Rattle.cache.proofs.Finds.{found}
+use Rattle.words.specs.Words.{isWidth}
+use Rattle.words.proofs.Widths.{is-one}
+use Rattle.translation.specs.Alignment.{cleared}
+
+-- an access lies in one block of sixteen bytes, so in one line: its place is as far in a small page as its cleared address
+pub in-block : (a : Access) (pa : ℕ) → isWidth (a .width) ≡ true → pa % 4096 ≡ cleared a .0 % 4096 → pa % 16 + a .width ≤ 16
+unfolding cleared
+in-block a pa w e =
+    case (eqb (a .width) 4)
+    (λ t. let k : a .width ≡ 4 = eqb-true (a .width) 4 t in let f = rw t at e in omega arith)
+    (λ t.
+    case (eqb (a .width) 2)
+    (λ u. let k : a .width ≡ 2 = eqb-true (a .width) 2 u in let f = rw (t, u) at e in omega arith)
+    (λ u. let k : a .width ≡ 1 = is-one (a .width) w (eqb-false (a .width) 4 t) (eqb-false (a .width) 2 u) in omega arith))
+
+pub in-line : (a : Access) → isWidth (a .width) ≡ true → cleared a .0 % 32 + a .width ≤ 32
+in-line a w = let h = in-block a (cleared a .0) w refl in omega arith
+
+-- the line that a search finds is one of the 512
+pub find-low : (ws : List ℕ) (va : VirtualAddress) (i : ℕ) → length ws ≡ 512 → find (linesOf ws) va ≡ At i → i < 512
+find-low ws va i n e = let f = found (linesOf ws) va i e in f .low

@@ -1,0 +1,101 @@
+-- "Refused calls, in checking order": the twelve rows, and those that a call alone decides. The number of a refusal is that of the first row met,
+-- among the rows that the call meets, in their order; 0 is none.
+use Prim.Native.Nat.{ℕ, _%_}
+use mathlib.Core.Bool.{Bool, true, false, cond, not, _&&_}
+use mathlib.Core.List.{List, [], _∷_}
+use lib.Dec.{eqb, leb}
+use Rattle.values.specs.Bits.{bit}
+use Rattle.values.specs.Rows.{Row, firstMet}
+use Rattle.values.specs.Control.{listed}
+use Rattle.values.specs.Counts.{countLimit}
+use Rattle.values.specs.declared.Kind.{Kind}
+use Rattle.values.specs.declared.Kind.the-variants.{Load, SignedLoad, Store}
+use Rattle.values.specs.declared.Access.{Access}
+use Rattle.values.specs.declared.Transfer.{Transfer}
+use Rattle.values.specs.declared.Call as call
+use Rattle.values.specs.declared.Call.the-variants.{Read, Write}
+use Rattle.values.specs.declared.Call.the-variants as calls
+use Rattle.words.specs.Words.{isWidth, fitsWidth}
+use Rattle.registers.specs.Pairs.{listedPair}
+
+-- a number, and the condition under which it refuses
+abbrev pub refuses : ℕ → Bool → Row ℕ
+refuses n condition = record { met = condition; gives = n }
+
+-- the number of the first row met
+abbrev pub refusalIn : List (Row ℕ) → ℕ
+refusalIn rows = firstMet 0 rows
+
+-- "1. The memory length is not a multiple of 32 or exceeds 16,777,216."
+abbrev pub lengthFits : ℕ → Bool
+lengthFits n = eqb (n % 32) 0 && leb n 0x1000000
+
+abbrev pub row1 : ℕ → Row ℕ
+row1 length = refuses 1 (not (lengthFits length))
+
+-- "2. The cache store is not 16,384 bytes."
+abbrev pub storeFits : ℕ → Bool
+storeFits n = eqb n 16384
+
+abbrev pub row2 : ℕ → Row ℕ
+row2 length = refuses 2 (not (storeFits length))
+
+-- "3. The state is unsound": by the test of soundness
+abbrev pub row3 : Bool → Row ℕ
+row3 sound = refuses 3 (not sound)
+
+-- "4. The memory length differs from the one at the start."
+abbrev pub row4 : ℕ → ℕ → Row ℕ
+row4 start length = refuses 4 (not (eqb start length))
+
+-- "5. The count of calls stands at 4,294,967,295."
+abbrev pub row5 : ℕ → Row ℕ
+row5 calls = refuses 5 (eqb calls countLimit)
+
+-- "6. The access width is not 1, 2 or 4 bytes."
+abbrev pub row6 : Access → Row ℕ
+row6 a = refuses 6 (not (isWidth (a .width)))
+
+-- "7. The value to store does not fit the width."
+abbrev pub valueFits : ℕ → Kind → Bool
+valueFits width Load = true
+valueFits width SignedLoad = true
+valueFits width (Store v) = fitsWidth width v
+
+abbrev pub row7 : Access → Row ℕ
+row7 a = refuses 7 (not (valueFits (a .width) (a .kind)))
+
+-- a CP15 call: whether it writes, and the value written
+module _ (t : Transfer) (writes : Bool) (v : ℕ) where
+  -- "8. A CP15 call is made in user mode."
+  abbrev pub row8 : Row ℕ
+  row8 = refuses 8 (not (t .privileged))
+
+  -- "9. The register cannot be read (other than 0 to 6) or written (other than 1 to 8)."
+  abbrev pub row9 : Row ℕ
+  row9 = refuses 9 (not (cond writes (leb 1 (t .register) && leb (t .register) 8) (leb (t .register) 6)))
+
+  -- "10. The operation pair for register 7 or 8 is not listed."
+  abbrev pub row10 : Row ℕ
+  row10 = refuses 10 (writes && (leb 7 (t .register) && not (listedPair t)))
+
+  -- "11. A control write sets bit 7."
+  abbrev pub row11 : Row ℕ
+  row11 = refuses 11 (writes && (eqb (t .register) 1 && bit v 7))
+
+  -- "12. A control write gives an unlisted combination."
+  abbrev pub row12 : Row ℕ
+  row12 = refuses 12 (writes && (eqb (t .register) 1 && not (listed v)))
+
+  -- "a CP15 call ... 8 to 12"
+  abbrev pub transferRows : List (Row ℕ)
+  transferRows = row8 ∷ row9 ∷ row10 ∷ row11 ∷ row12 ∷ []
+
+-- "an access ... 6 and 7"; a CP15 call 8 to 12: the rows that the call alone decides
+abbrev pub callRows : call.Call → List (Row ℕ)
+callRows (calls.Access a) = row6 a ∷ row7 a ∷ []
+callRows (Read t) = transferRows t false 0
+callRows (Write t v) = transferRows t true v
+
+abbrev pub callRefusal : call.Call → ℕ
+callRefusal c = refusalIn (callRows c)

@@ -1,5 +1,0 @@
-pub mod Clauses
-pub mod Lines
-pub mod Twice
-pub mod Tags
-pub mod Slots

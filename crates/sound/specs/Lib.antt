@@ -1,4 +1,0 @@
-pub mod Machine
-pub mod Soundness
-pub mod Meaning
-pub mod Formed

@@ -1,0 +1,17 @@
+pub mod Elements
+pub mod CacheParts
+pub mod BufferParts
+pub mod TlbParts
+pub mod ScalarParts
+pub mod Reader
+pub mod LowBytes
+pub mod BackingKept
+pub mod CacheKept
+pub mod TlbKept
+pub mod RegistersKept
+pub mod CountsKept
+pub mod Holding
+pub mod Replaced
+pub mod FreshSound
+pub mod AccessKept
+pub mod Cp15Kept

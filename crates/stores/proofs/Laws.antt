@@ -1,0 +1,103 @@
+-- What the code of a store leaves is what the definition says, by the facts that its callees give.
+use Prim.Native.Nat.{ℕ, _%_}
+use native.Mathlib.Omega.{arith}
+use mathlib.Core.Bool.{true, false}
+use mathlib.Core.Path.{_≡_, ap}
+use mathlib.Core.List.{List}
+use lib.ListN.{length}
+use Rattle.values.specs.Counts.{hit}
+use Rattle.values.specs.declared.Access.{Access}
+use Rattle.values.specs.declared.VirtualAddress.{VirtualAddress}
+use Rattle.values.specs.declared.Answer.the-variants as answer
+use Rattle.values.specs.declared.Search.the-variants.{At, Nothing}
+use Rattle.words.specs.Words.{stored, isWidth}
+use Rattle.bus.specs.Physical.{physical, aborts}
+use Rattle.bus.proofs.Laws.{answers}
+use Rattle.buffer.specs.Buffer.{Backing, withMemory, drained, buffered}
+use Rattle.buffer.specs.Packing.{backingOf}
+use Rattle.buffer.specs.Ranges.{Left, Stores}
+use Rattle.cache.specs.Dcache.{Dcache, dcacheFrom, sideFrom, find, hitStore}
+use Rattle.cache.specs.Packing.{linesOf}
+use Rattle.translation.specs.Alignment.{cleared}
+use Rattle.translation.specs.Faults.{buffers, otherStatus}
+use Rattle.translation.specs.Ranges.{PlaceRanged}
+use Rattle.translation.specs.declared.Place.{Place}
+use Rattle.machine.specs.Machine.{Machine, machineFrom, physicalOf, Stepped, answersZero}
+use Rattle.machine.specs.Scalars.{outcomeFrom, withCounts, withUsed}
+use Rattle.machine.specs.Lists.{Lists, lists, machineOf, steppedOf}
+use Rattle.machine.specs.declared.Scalars.{Scalars}
+use Rattle.machine.specs.declared.Outcome.{Outcome}
+use Rattle.reach.specs.Reach.{faulted}
+use Rattle.reach.proofs.Bounds.{in-block}
+use Rattle.stores.specs.Stores.{storeHit, storeBuffered, storeDirect, storeMiss, store}
+
+-- a served store's outcome
+abbrev pub storedBy : Scalars → Outcome
+storedBy s = outcomeFrom s (answer.Value 0)
+
+module _ (es : List ℕ) (s : Scalars) (n : ℕ) (a : Access) (v : ℕ) (l : Lists) (o : Outcome) where
+  pub store-hit-left : (ls st : List ℕ) (i : ℕ) (va : VirtualAddress) (r : Scalars) → va ≡ cleared a
+      → dcacheFrom (linesOf ls) (l .pointers) st ≡ hitStore (dcacheFrom (linesOf (l .lines)) (l .pointers) (l .store)) i va (a .width) v
+      → r ≡ withCounts s (hit (s .counts)) → o ≡ storedBy r
+      → steppedOf (lists (l .memory) (l .words) (l .bytes) ls (l .pointers) st) es n o ≡ storeHit (machineOf l es s n) a v i
+  unfolding storeHit
+  store-hit-left ls st i va r f e g h = rw (h, g) (ap made (rw f at e))
+    where
+      made : Dcache → Stepped
+      made c =
+          answersZero (machineFrom (s .cp15) (machineOf l es s n .entries) (sideFrom c (machineOf l es s n .side .backing)) (hit (s .counts)) n)
+
+  abbrev made-by : Backing → Stepped
+  made-by b =
+      answersZero (machineFrom (s .cp15) (machineOf l es s n .entries) (sideFrom (machineOf l es s n .side .cache) b) (s .counts) n)
+
+  module _ (p : Place) (r : Scalars) where
+    pub direct-left : (m k ws : List ℕ) (bs : List (List ℕ))
+        → Left k ws bs 0 (drained (backingOf (l .memory) (l .words) (l .bytes) (s .used))) → m ≡ stored (a .width) k (p .address .0) v
+        → r ≡ withUsed s 0 → o ≡ storedBy r
+        → steppedOf (lists m ws bs (l .lines) (l .pointers) (l .store)) es n o ≡ storeDirect (machineOf l es s n) a v p
+    unfolding storeDirect
+    direct-left m k ws bs e f g h =
+        rw (h, g, f) (ap (λ (b : Backing). made-by (withMemory b (stored (a .width) (b .memory) (p .address .0) v))) (e .same))
+
+    pub buffered-left : (m ws : List ℕ) (bs : List (List ℕ)) (used : ℕ) → aborts (physical (l .memory)) (p .address) ≡ false
+        → Left m ws bs used (buffered (backingOf (l .memory) (l .words) (l .bytes) (s .used)) (p .address) (a .width) v)
+        → r ≡ withUsed s used → o ≡ storedBy r
+        → steppedOf (lists m ws bs (l .lines) (l .pointers) (l .store)) es n o ≡ storeBuffered (machineOf l es s n) a v p
+    unfolding storeBuffered
+    buffered-left m ws bs used i e g h = rw (h, g, i) (ap made-by (e .same))
+
+-- what a buffered store asks holds where its word answers
+pub stores-in : (memory : List ℕ) (a : Access) (p : Place) → isWidth (a .width) ≡ true → PlaceRanged (cleared a) p
+    → aborts (physical memory) (p .address) ≡ false → length memory % 32 ≡ 0 → Stores memory (p .address) (a .width)
+stores-in memory a p w r h m =
+    let i = answers (physical memory) (p .address) h in
+    record { width-is = w; in-block = in-block a (p .address .0) w (r .within); inside = omega arith }
+
+-- ---- the cases of a store
+
+module _ (m : Machine) (a : Access) (v : ℕ) (p : Place) where
+  pub miss-buffered : buffers (m .cp15 .registers) p ≡ true → storeMiss m a v p ≡ storeBuffered m a v p
+  unfolding storeMiss
+  miss-buffered f = rw f
+
+  pub miss-direct : aborts (physicalOf m) (p .address) ≡ false → buffers (m .cp15 .registers) p ≡ false → storeMiss m a v p ≡ storeDirect m a v p
+  unfolding storeMiss
+  miss-direct h f = rw (f, h)
+
+  module _ (h : aborts (physicalOf m) (p .address) ≡ true) where
+    pub miss-dropped : buffers (m .cp15 .registers) p ≡ true → storeMiss m a v p ≡ answersZero m
+    unfolding storeMiss storeBuffered
+    miss-dropped f = rw (f, h)
+
+    pub miss-faults : buffers (m .cp15 .registers) p ≡ false → storeMiss m a v p ≡ faulted m (otherStatus p) (p .domain) (a .address)
+    unfolding storeMiss
+    miss-faults f = rw (f, h)
+
+  pub store-found : (va : VirtualAddress) (i : ℕ) → va ≡ cleared a → find (m .side .cache .lines) va ≡ At i → store m a v p ≡ storeHit m a v i
+  unfolding store
+  store-found va i f e = rw (← f, e)
+
+  pub store-none : (va : VirtualAddress) → va ≡ cleared a → find (m .side .cache .lines) va ≡ Nothing → store m a v p ≡ storeMiss m a v p
+  unfolding store
+  store-none va f e = rw (← f, e)

@@ -1,0 +1,171 @@
+// Stores whose alignment, translation and rights pass: into the Dcache, the write buffer or memory.
+ghost use mathlib.Core.Path.{_≡_};
+ghost use mathlib.Core.Bool.{true, false};
+ghost use mathlib.Core.List.{List};
+ghost use Prim.Native.Nat.{ℕ, _<_, _%_};
+ghost use lib.ListN.{length};
+ghost use Rattle.values.specs.Counts.{countLimit};
+ghost use Rattle.words.specs.Words.{isWidth};
+ghost use Rattle.bus.specs.Physical.{physical, aborts};
+ghost use Rattle.buffer.specs.Ranges.{Fits};
+ghost use Rattle.translation.specs.Alignment as aligned;
+ghost use Rattle.translation.specs.Ranges.{PlaceRanged};
+ghost use Rattle.machine.specs.Lists.{Lists, lists, machineOf, steppedOf, Leaves};
+ghost use Rattle.machine.specs.Machine.{Machine};
+ghost use Rattle.machine.specs.Scalars.{outcomeFrom};
+ghost use Rattle.stores.specs.Stores as spec;
+use machine::Outcome;
+use machine::Scalars;
+use translation::Place;
+use values::Access;
+use values::Answer;
+use values::Search;
+
+// A served store answers 0.
+fn stored(s: Scalars) -> Outcome
+    ensures { λ r. ⌜ r ≡ outcomeFrom s (Answer.Value 0) ⌝ }
+{
+    Outcome {
+        scalars: s,
+        answer: Answer::Value(0),
+    }
+}
+
+// A store into line i.
+fn store_hit(
+    lines: &mut [u64],
+    store: &mut [u8],
+    s: Scalars,
+    a: Access,
+    v: u32,
+    i: usize,
+) -> Outcome
+    requires { ⌜ (length (now lines) ≡ 512) × (length (now store) ≡ 16384) × (i < 512) × (isWidth (a .width) ≡ true)
+        × (s .counts .hits < countLimit) ⌝ }
+    ensures { λ r.
+        ⌜ ((memory words : List ℕ) (bytes : List (List ℕ)) (pointers entries : List ℕ) (size : ℕ)
+        → steppedOf (lists memory words bytes (now (lines .exit)) pointers (now (store .exit))) entries size r
+        ≡ spec.storeHit (machineOf (lists memory words bytes (now (lines .entry)) pointers (now (store .entry))) entries s size) a v i) ⌝ }
+{
+    let va = translation::cleared(a);
+    cache::store(lines, store, i, va, a.width, v);
+    stored(machine::hit(s))
+}
+
+// A store that drains the buffer and goes to memory.
+fn store_direct(
+    memory: &mut [u8],
+    words: &mut [u64],
+    bytes: &mut [[u8; 16]; 8],
+    s: Scalars,
+    a: Access,
+    v: u32,
+    p: Place,
+) -> Outcome
+    requires { ⌜ Fits (now memory) (now words) (now bytes) (s .used) × (length (now memory) % 32 ≡ 0) × (isWidth (a .width) ≡ true)
+        × PlaceRanged (aligned.cleared a) p × (aborts (physical (now memory)) (p .address) ≡ false) ⌝ }
+    ensures { λ r.
+        ⌜ ((lines pointers store : List ℕ)
+        → Leaves (lists (now (memory .entry)) (now (words .entry)) (now (bytes .entry)) lines pointers store) s
+        (lists (now (memory .exit)) (now (words .exit)) (now (bytes .exit)) lines pointers store) r
+        (λ (m : Machine). spec.storeDirect m a v p)) ⌝ }
+{
+    let pa = p.address;
+    let b = *bytes;
+    *bytes = buffer::drain(memory, words, b, s.used);
+    words::store(memory, pa.0 as usize, a.width, v);
+    stored(machine::with_used(s, 0))
+}
+
+// A store inside memory that is buffered.
+fn store_buffered(
+    memory: &mut [u8],
+    words: &mut [u64],
+    bytes: &mut [[u8; 16]; 8],
+    s: Scalars,
+    a: Access,
+    v: u32,
+    p: Place,
+) -> Outcome
+    requires { ⌜ Fits (now memory) (now words) (now bytes) (s .used) × (length (now memory) % 32 ≡ 0) × (isWidth (a .width) ≡ true)
+        × PlaceRanged (aligned.cleared a) p × (aborts (physical (now memory)) (p .address) ≡ false) ⌝ }
+    ensures { λ r.
+        ⌜ ((lines pointers store : List ℕ)
+        → Leaves (lists (now (memory .entry)) (now (words .entry)) (now (bytes .entry)) lines pointers store) s
+        (lists (now (memory .exit)) (now (words .exit)) (now (bytes .exit)) lines pointers store) r
+        (λ (m : Machine). spec.storeBuffered m a v p)) ⌝ }
+{
+    let used = buffer::store(memory, words, bytes, s.used, p.address, a.width, v);
+    stored(machine::with_used(s, used))
+}
+
+// A store whose word aborts: its bytes are dropped, or it faults.
+fn store_aborted(s: Scalars, a: Access, p: Place) -> Outcome
+    requires { ⌜ p .domain < 16 ⌝ }
+    ensures { λ r.
+        ⌜ ((l : Lists) (entries : List ℕ) (size v : ℕ) → aborts (physical (l .memory)) (p .address) ≡ true
+        → steppedOf l entries size r ≡ spec.storeMiss (machineOf l entries s size) a v p) ⌝ }
+{
+    let r = s.cp15.registers;
+    let address = a.address;
+    if translation::buffers(r, p) {
+        return stored(s);
+    }
+    reach::faulted(s, translation::other_status(p), p.domain, address)
+}
+
+// A store that misses.
+fn store_miss(
+    memory: &mut [u8],
+    words: &mut [u64],
+    bytes: &mut [[u8; 16]; 8],
+    s: Scalars,
+    a: Access,
+    v: u32,
+    p: Place,
+) -> Outcome
+    requires { ⌜ Fits (now memory) (now words) (now bytes) (s .used) × (length (now memory) % 32 ≡ 0) × (isWidth (a .width) ≡ true)
+        × PlaceRanged (aligned.cleared a) p ⌝ }
+    ensures { λ r.
+        ⌜ ((lines pointers store : List ℕ)
+        → Leaves (lists (now (memory .entry)) (now (words .entry)) (now (bytes .entry)) lines pointers store) s
+        (lists (now (memory .exit)) (now (words .exit)) (now (bytes .exit)) lines pointers store) r
+        (λ (m : Machine). spec.storeMiss m a v p)) ⌝ }
+{
+    let r = s.cp15.registers;
+    if bus::aborts(memory, p.address) {
+        return store_aborted(s, a, p);
+    }
+    if translation::buffers(r, p) {
+        return store_buffered(memory, words, bytes, s, a, v, p);
+    }
+    store_direct(memory, words, bytes, s, a, v, p)
+}
+
+// A store: the Dcache is searched, even when disabled; a miss allocates no line.
+pub fn store(
+    memory: &mut [u8],
+    words: &mut [u64],
+    bytes: &mut [[u8; 16]; 8],
+    lines: &mut [u64],
+    cached: &mut [u8],
+    s: Scalars,
+    a: Access,
+    v: u32,
+    p: Place,
+) -> Outcome
+    requires { ⌜ Fits (now memory) (now words) (now bytes) (s .used) × (length (now lines) ≡ 512) × (length (now cached) ≡ 16384)
+        × (length (now memory) % 32 ≡ 0) × (s .counts .hits < countLimit) × (isWidth (a .width) ≡ true) × PlaceRanged (aligned.cleared a) p ⌝ }
+    ensures { λ r.
+        ⌜ ((pointers : List ℕ)
+        → Leaves (lists (now (memory .entry)) (now (words .entry)) (now (bytes .entry)) (now (lines .entry)) pointers (now (cached .entry))) s
+        (lists (now (memory .exit)) (now (words .exit)) (now (bytes .exit)) (now (lines .exit)) pointers (now (cached .exit))) r
+        (λ (m : Machine). spec.store m a v p)) ⌝ }
+{
+    let va = translation::cleared(a);
+    let found = cache::find(lines, va);
+    match found {
+        Search::At(i) => store_hit(lines, cached, s, a, v, i),
+        Search::Nothing => store_miss(memory, words, bytes, s, a, v, p),
+    }
+}
