@@ -151,8 +151,10 @@ behind-below b s p h e =
     let x = getD (b .memory) p 0 in
     let y = over (take u l) p x in
     let k : length l - u ≡ suc (length l - suc u) = omega arith in
-    let d : drop (suc u) l ≡ replicate (length l - suc u) emptySlot = sym (drop-one u l) ∙ ap (λ (r : List Slot). drop 1 r) (e ∙ ap (λ (j : ℕ). replicate j emptySlot) k) in
-    let old : over l p x ≡ y = ap (λ (r : List Slot). over r p x) (sym (take-append-drop u l)) ∙ over-append (take u l) (drop u l) p x ∙ ap (λ (r : List Slot). over r p y) e ∙ over-empties (length l - u) p y in
+    let d : drop (suc u) l ≡ replicate (length l - suc u) emptySlot = sym (drop-one u l)
+    ∙ ap (λ (r : List Slot). drop 1 r) (e ∙ ap (λ (j : ℕ). replicate j emptySlot) k) in
+    let old : over l p x ≡ y = ap (λ (r : List Slot). over r p x) (sym (take-append-drop u l)) ∙ over-append (take u l) (drop u l) p x
+    ∙ ap (λ (r : List Slot). over r p y) e ∙ over-empties (length l - u) p y in
     let z = cond (masks s p) (getD (s .bytes) (p % 16) 0) y in
     ap (λ (r : List Slot). over r p x) (set-split l u s h) ∙ over-append (take u l) (s ∷ drop (suc u) l) p x
     ∙ ap (λ (r : List Slot). over r p z) d ∙ over-empties (length l - suc u) p z

@@ -71,7 +71,13 @@ module _ (m ws : List ℕ) (bs : List (List ℕ)) (used : ℕ) (f : Fits m ws bs
     slot-joined : slotOf (bitOr (getD ws i 0) k) new ≡ joined (getD (slotsOf ws bs) i emptySlot) width (pa .0 % 16) v
     unfolding joined
     slot-joined =
-        rw (slot-at ws bs i (f .words-long ∙ sym (f .bytes-long)), joined-block (getD ws i 0) k hk, joined-mask (getD ws i 0) k hk, ek, any-default bs i [] (replicate 16 0) in-bytes)
+        rw (
+          slot-at ws bs i (f .words-long ∙ sym (f .bytes-long)),
+          joined-block (getD ws i 0) k hk,
+          joined-mask (getD ws i 0) k hk,
+          ek,
+          any-default bs i [] (replicate 16 0) in-bytes,
+        )
 
     pub joined-left : Left m (set ws i (bitOr (getD ws i 0) k)) (set bs i new) used (buffered b pa width v)
     joined-left =
@@ -101,7 +107,12 @@ module _ (m ws : List ℕ) (bs : List (List ℕ)) (used : ℕ) (f : Fits m ws bs
     pub new-left : (m′ ws′ : List ℕ) (bs′ : List (List ℕ)) (used′ : ℕ) (x : List ℕ) → x ≡ stored width (replicate 16 0) (pa .0 % 16) v
         → Left m′ ws′ bs′ used′ (pushed b (slotOf (blockOf pa * 0x100000000 + k) x)) → Left m′ ws′ bs′ used′ (buffered b pa width v)
     new-left m′ ws′ bs′ used′ x ex l =
-        let s : slotOf (blockOf pa * 0x100000000 + k) x ≡ newSlot (blockOf pa) width (pa .0 % 16) v = rw (word-block (blockOf pa) k (omega arith), word-mask (blockOf pa) k (omega arith), ek, ex) in
+        let s : slotOf (blockOf pa * 0x100000000 + k) x ≡ newSlot (blockOf pa) width (pa .0 % 16) v = rw (
+          word-block (blockOf pa) k (omega arith),
+          word-mask (blockOf pa) k (omega arith),
+          ek,
+          ex,
+        ) in
         record { same = l .same ∙ ap (pushed b) s ∙ by-search Nothing e; fits = l .fits }
 
 -- a half
@@ -110,5 +121,8 @@ pub half-left : (m ws : List ℕ) (bs : List (List ℕ)) (used block : ℕ) (x :
     → Left m′ ws′ bs′ used′ (halfPushed (backingOf m ws bs used) block x)
 unfolding halfPushed
 half-left m ws bs used block x m′ ws′ bs′ used′ l =
-    let s : slotOf (block * 0x100000000 + 0xFFFF) x ≡ record { block = block; mask = 0xFFFF; bytes = x } = rw (word-block block 0xFFFF (omega arith), word-mask block 0xFFFF (omega arith)) in
+    let s : slotOf (block * 0x100000000 + 0xFFFF) x ≡ record { block = block; mask = 0xFFFF; bytes = x } = rw (
+      word-block block 0xFFFF (omega arith),
+      word-mask block 0xFFFF (omega arith),
+    ) in
     record { same = l .same ∙ ap (pushed (backingOf m ws bs used)) s; fits = l .fits }

@@ -16,7 +16,24 @@ use Rattle.values.specs.declared.Search.{Search}
 use Rattle.values.specs.declared.Search.the-variants.{At, Nothing}
 use Rattle.values.proofs.Cases.{case}
 use Rattle.words.proofs.Laws.{length-stored}
-use Rattle.buffer.specs.Buffer.{Buffer, Backing, slotAt, oldestLeft, leaving, drained, behind, pushed, halfPushed, newestOf, joined, newSlot, storedAt, buffered, holds, ready}
+use Rattle.buffer.specs.Buffer.{
+  Buffer,
+  Backing,
+  slotAt,
+  oldestLeft,
+  leaving,
+  drained,
+  behind,
+  pushed,
+  halfPushed,
+  newestOf,
+  joined,
+  newSlot,
+  storedAt,
+  buffered,
+  holds,
+  ready,
+}
 use Rattle.buffer.proofs.Laying.{length-laid}
 
 -- ---- memory's length stays

@@ -212,7 +212,8 @@ unfolding newestOf
 newest-block slots block zero i e = let z : _≡_ {A = ℕ} 0 1 = cc in absurd (omega arith)
 newest-block slots block (suc n) i e =
     case (eqb (getD slots n emptySlot .block) block)
-    (λ t. let f : At n ≡ At i = rw t at e in let q : n ≡ i = cc in subst (λ (k : ℕ). getD slots k emptySlot .block ≡ block) q (eqb-true (getD slots n emptySlot .block) block t))
+    (λ t. let f : At n ≡ At i = rw t at e in let q : n ≡ i = cc in subst (λ (k : ℕ). getD slots k emptySlot .block ≡ block) q
+    (eqb-true (getD slots n emptySlot .block) block t))
     (λ t. newest-block slots block n i (rw t at e))
 
 -- entries of which none masks the byte
@@ -255,7 +256,8 @@ module _ (m : List ℕ) (l : List Slot) (used block w o v i : ℕ) (e : newestOf
       other (getD l (suc i + j) emptySlot) f)
       (λ t.
       case (ltb (suc i + j) (length l))
-      (λ u. ap (λ (s : Slot). masks s p) (place-empty l used (suc i + j) rest (ltb-false (suc i + j) used t) (ltb-true (suc i + j) (length l) u)) ∙ empty-masks p)
+      (λ u. ap (λ (s : Slot). masks s p) (place-empty l used (suc i + j) rest (ltb-false (suc i + j) used t) (ltb-true (suc i + j) (length l) u))
+      ∙ empty-masks p)
       (λ u. ap (λ (s : Slot). masks s p) (getD-out l (suc i + j) emptySlot (ltb-false (suc i + j) (length l) u)) ∙ empty-masks p))
     where
       other : (s : Slot) → eqb (s .block) block ≡ false → masks s p ≡ false
@@ -272,7 +274,8 @@ module _ (m : List ℕ) (l : List Slot) (used block w o v i : ℕ) (e : newestOf
       let y = over (take i l) p x in
       let ts = drop (suc i) l in
       let eb : s .block ≡ block = newest-block l block used i e in
-      let old : over l p x ≡ over ts p (laidOver s p y) = ap (λ (r : List Slot). over r p x) (split-at l i emptySlot (omega arith)) ∙ through s ts (take i l) p x in
+      let old : over l p x ≡ over ts p (laidOver s p y) = ap (λ (r : List Slot). over r p x) (split-at l i emptySlot (omega arith))
+      ∙ through s ts (take i l) p x in
       ap (λ (r : List Slot). over r p x) (set-split l i (joined s w o v) (omega arith)) ∙ through (joined s w o v) ts (take i l) p x
       ∙ ap (λ (z : ℕ). over ts p z) (joined-over s w o v p y n h)
       ∙ ap (λ (k : ℕ). over ts p (laidOver (newSlot k w o v) p (laidOver s p y))) eb
@@ -368,7 +371,8 @@ module _ (m : List ℕ) (l : List Slot) (used : ℕ) (eight : length l ≡ 8) (l
   buffered-below pa w v p h = by (newestOf l (blockOf pa) used) refl
     where
       by : (x : Search) → newestOf l (blockOf pa) used ≡ x
-          → below (storedAt (with-slots m l used) (blockOf pa) w (pa .0 % 16) v x) p ≡ laidOver (newSlot (blockOf pa) w (pa .0 % 16) v) p (below (with-slots m l used) p)
+          → below (storedAt (with-slots m l used) (blockOf pa) w (pa .0 % 16) v x) p
+          ≡ laidOver (newSlot (blockOf pa) w (pa .0 % 16) v) p (below (with-slots m l used) p)
       by (At i) e =
           joined-below m l used (blockOf pa) w (pa .0 % 16) v i e (omega arith) rest (good-at i (newest-below l (blockOf pa) used i e)) h p
       by Nothing e = pushed-below (newSlot (blockOf pa) w (pa .0 % 16) v) p

@@ -13,7 +13,25 @@ use Rattle.values.specs.declared.Search.{Search}
 use Rattle.values.specs.declared.Search.the-variants.{At, Nothing}
 use Rattle.values.proofs.Cases.{case, number-low}
 use Rattle.values.proofs.Sums.{sum-more, sum-out, sum-replicate}
-use Rattle.cache.specs.Dcache.{Dcache, Side, lineAt, find, marked, cleanLine, freshLine, dirtyHalves, victim, hitStore, lineRead, filled, cleanedAt, cleaned, flushedAt, lineFlushed, allFlushed}
+use Rattle.cache.specs.Dcache.{
+  Dcache,
+  Side,
+  lineAt,
+  find,
+  marked,
+  cleanLine,
+  freshLine,
+  dirtyHalves,
+  victim,
+  hitStore,
+  lineRead,
+  filled,
+  cleanedAt,
+  cleaned,
+  flushedAt,
+  lineFlushed,
+  allFlushed,
+}
 
 -- a line has at most two dirty halves
 pub dirty-two : (l : Line) → dirtyHalves l ≤ 2

@@ -20,7 +20,29 @@ use Rattle.values.proofs.Cases.{case}
 use Rattle.words.specs.Words.{stored}
 use Rattle.words.proofs.Laws.{byte-in, byte-before, byte-behind, load-same}
 use Rattle.buffer.specs.Buffer.{ready}
-use Rattle.cache.specs.Dcache.{Dcache, Side, lineAt, withLine, find, marked, hitLoad, hitStore, halvesSent, victim, turned, copied, freshLine, lineRead, filled, cleanLine, cleanedAt, cleaned, flushedAt, lineFlushed, allFlushed}
+use Rattle.cache.specs.Dcache.{
+  Dcache,
+  Side,
+  lineAt,
+  withLine,
+  find,
+  marked,
+  hitLoad,
+  hitStore,
+  halvesSent,
+  victim,
+  turned,
+  copied,
+  freshLine,
+  lineRead,
+  filled,
+  cleanLine,
+  cleanedAt,
+  cleaned,
+  flushedAt,
+  lineFlushed,
+  allFlushed,
+}
 use Rattle.cache.proofs.Unchanged.{memory-filled}
 
 -- ---- one line replaced

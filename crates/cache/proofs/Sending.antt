@@ -56,8 +56,10 @@ module _ (m ws : List ℕ) (bs : List (List ℕ)) (used : ℕ) (lines pointers s
       rw (← ei, q, ← eb)
       (record {
         side =
-            ap (λ (x : List Line). (sideFrom (dcacheFrom x (turned pointers (setOf va)) (copied store (i * 32) m′ (physicalLine pa * 32) 32)) (backingOf m′ ws′ bs′ n))) s
-            ∙ ap (λ (x : Backing). (sideFrom (dcacheFrom (set (linesOf lines) i new) (turned pointers (setOf va)) (copied store (i * 32) (x .memory) (physicalLine pa * 32) 32)) x)) (o .same);
+            ap (λ (x : List Line). (sideFrom (dcacheFrom x (turned pointers (setOf va)) (copied store (i * 32) m′ (physicalLine pa * 32) 32))
+            (backingOf m′ ws′ bs′ n))) s
+            ∙ ap (λ (x : Backing). (sideFrom (dcacheFrom (set (linesOf lines) i new) (turned pointers (setOf va))
+            (copied store (i * 32) (x .memory) (physicalLine pa * 32) 32)) x)) (o .same);
         count = eh;
         fits = o .fits;
       })

@@ -20,7 +20,29 @@ use Rattle.values.proofs.Cases.{case}
 use Rattle.words.proofs.Laws.{length-stored}
 use Rattle.buffer.specs.Buffer.{Backing}
 use Rattle.buffer.proofs.Lengths.{BufferShape, memory-half, memory-ready, shape-half, shape-ready}
-use Rattle.cache.specs.Dcache.{Dcache, Side, lineAt, withLine, find, marked, hitStore, halfSent, halvesSent, victim, turned, copied, freshLine, lineRead, filled, cleanLine, cleanedAt, cleaned, flushedAt, lineFlushed, allFlushed}
+use Rattle.cache.specs.Dcache.{
+  Dcache,
+  Side,
+  lineAt,
+  withLine,
+  find,
+  marked,
+  hitStore,
+  halfSent,
+  halvesSent,
+  victim,
+  turned,
+  copied,
+  freshLine,
+  lineRead,
+  filled,
+  cleanLine,
+  cleanedAt,
+  cleaned,
+  flushedAt,
+  lineFlushed,
+  allFlushed,
+}
 
 -- ---- memory's length stays
 
@@ -223,7 +245,8 @@ shape-filled s va pa p inside h =
     let n = memory-ready b (physicalLine pa * 32) 32 ∙ memory-sent (s .backing) l (s .cache .store) (i * 32) in
     record {
       cache-shape = shape-read (s .cache) i va pa _ low (within n inside) (h .cache-shape);
-      buffer-shape = shape-ready b (physicalLine pa * 32) 32 (shape-sent (s .backing) l (s .cache .store) (i * 32) (room i low (h .cache-shape .store-long)) (h .buffer-shape));
+      buffer-shape = shape-ready b (physicalLine pa * 32) 32 (shape-sent (s .backing) l (s .cache .store) (i * 32)
+          (room i low (h .cache-shape .store-long)) (h .buffer-shape));
     }
   where
     within : {x y z : ℕ} → x ≡ y → z ≤ y → z ≤ x

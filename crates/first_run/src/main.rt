@@ -26,7 +26,7 @@ const CALLS: [u32; 85] = [
     1,
     2,
     0,
-    16384, // write register 2, table base
+    0x4000, // write register 2, table base
     4,
     1,
     3,
@@ -45,32 +45,32 @@ const CALLS: [u32; 85] = [
     2,
     1,
     4,
-    1048592,
-    3405648436, // store a word through a section
+    0x100010,
+    0xcafe1234, // store a word through a section
     0,
     1,
     4,
-    1048592,
+    0x100010,
     0, // load it
     1,
     1,
     1,
-    1048595,
+    0x100013,
     0, // signed load of its top byte
     2,
     1,
     2,
-    2098304,
-    48879, // store a halfword through a small page
+    0x200480,
+    0xbeef, // store a halfword through a small page
     0,
     1,
     2,
-    2098304,
+    0x200480,
     0, // load it
     0,
     0,
     4,
-    2098304,
+    0x200480,
     0, // user load of that page
     3,
     1,
@@ -85,17 +85,17 @@ const CALLS: [u32; 85] = [
     0,
     1,
     4,
-    3145728,
+    0x300000,
     0, // load where level 1 has no entry
     0,
     1,
     4,
-    1048594,
+    0x100012,
     0, // load at an address that is no multiple of 4
     0,
     1,
     3,
-    1048592,
+    0x100010,
     0, // load of 3 bytes
     4,
     1,
@@ -121,13 +121,13 @@ fn digit(n: u32) -> u8
 // A number in eight hexadecimal digits.
 fn print_hex(n: u32) {
     let out = [
-        digit(n / 268435456),
-        digit(n / 16777216 % 16),
-        digit(n / 1048576 % 16),
-        digit(n / 65536 % 16),
-        digit(n / 4096 % 16),
-        digit(n / 256 % 16),
-        digit(n / 16 % 16),
+        digit(n / 0x10000000),
+        digit(n / 0x1000000 % 16),
+        digit(n / 0x100000 % 16),
+        digit(n / 0x10000 % 16),
+        digit(n / 0x1000 % 16),
+        digit(n / 0x100 % 16),
+        digit(n / 0x10 % 16),
         digit(n % 16),
     ];
     print(&out);
@@ -195,8 +195,8 @@ fn print_access(kind: u32, width: u32, a: u32, v: u32) {
 
 // An answer of a run: kind × 2^32 + value.
 fn print_code(code: u64) {
-    let kind = code / 4294967296;
-    let value = (code % 4294967296) as u32;
+    let kind = code / 0x100000000;
+    let value = (code % 0x100000000) as u32;
     if kind == 0 {
         print(b"  value ");
         print_hex(value);
@@ -316,9 +316,9 @@ fn set_up(memory: &mut [u8])
     requires { ⌜ length (now memory) ≡ 65536 ⌝ }
     ensures { λ r. ⌜ length (now (memory .exit)) ≡ 65536 ⌝ }
 {
-    words::store(memory, 16388, 4, 3086);
-    words::store(memory, 16392, 4, 32801);
-    words::store(memory, 32768, 4, 36958);
+    words::store(memory, 0x4004, 4, 0xc0e);
+    words::store(memory, 0x4008, 4, 0x8021);
+    words::store(memory, 0x8000, 4, 0x905e);
 }
 
 // The calls with their answers, and where the plain machine answers something else.
@@ -385,12 +385,12 @@ fn main() {
     // calls one by one, on what the run left
     let cp15 = ran.cp15;
     let start = Left { state, cp15 };
-    let first = one_call(start, &mut memory, &mut store, 1, 1, 1, 1048595, 0);
-    let second = one_call(first, &mut memory, &mut store, 0, 1, 2, 2098304, 0);
-    let third = one_call(second, &mut memory, &mut store, 0, 0, 4, 2098304, 0);
-    let fourth = one_call(third, &mut memory, &mut store, 2, 1, 1, 1048592, 256);
+    let first = one_call(start, &mut memory, &mut store, 1, 1, 1, 0x100013, 0);
+    let second = one_call(first, &mut memory, &mut store, 0, 1, 2, 0x200480, 0);
+    let third = one_call(second, &mut memory, &mut store, 0, 0, 4, 0x200480, 0);
+    let fourth = one_call(third, &mut memory, &mut store, 2, 1, 1, 0x100010, 256);
     // looks: into the cache store, into memory, and where nothing is mapped
-    print_look(fourth, &memory, &store, 1048592);
-    print_look(fourth, &memory, &store, 1064964);
-    print_look(fourth, &memory, &store, 3145728);
+    print_look(fourth, &memory, &store, 0x100010);
+    print_look(fourth, &memory, &store, 0x104004);
+    print_look(fourth, &memory, &store, 0x300000);
 }

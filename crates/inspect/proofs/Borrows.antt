@@ -18,7 +18,8 @@ use denote.Struct.Steps.{spelt}
 module _ {M : Type 1} {𝓤 : URA M} {H : Heap 𝓤} {A : Atoms 𝓤} {K : Type 0} {W : Given 𝓤 H A} {Γ : List (Item 𝓤)} {G : Goal 𝓤 H} where
   -- the first parameter, lent to be read, is looked into, by the first token: [a share of its cell; what it owns; the open borrow; the other
   -- tokens; what the other parameters own]
-  pub look-lent : K → Soaks G → (ℓ : Lifetime) (D : Declared) (L : LL.Laws D) → LL.Copyables (D .parts) → {κ : Lft} {q : Share} (x : RefT (D .D)) {i : Item 𝓤} {P : Fml}
+  pub look-lent : K → Soaks G → (ℓ : Lifetime) (D : Declared) (L : LL.Laws D) → LL.Copyables (D .parts) →
+      {κ : Lft} {q : Share} (x : RefT (D .D)) {i : Item 𝓤} {P : Fml}
       → ((q′ : Share) → Is (row D) (x .now) (LL.vals D L (x .now))
       → Seq K W (‵ (cellAt q′ (row D .mir) (LL.vals D L (x .now)) (x .ptr .0) (x .ptr .1)) ∷ ‵ (row D .own (x .now) (LL.vals D L (x .now)))
       ∷ ‵ (fobor κ q (partAt (row D) q′ (x .now) (x .ptr .0) (x .ptr .1))) ∷ i ∷ ‵ P ∷ Γ) G)
@@ -27,4 +28,5 @@ module _ {M : Type 1} {𝓤 : URA M} {H : Heap 𝓤} {A : Atoms 𝓤} {K : Type 
       split t $ move t (2 ∷ []) $ fsplit t $ fsplit3 t $ drop t $ drop t $ move t (0 ∷ 2 ∷ 3 ∷ 1 ∷ []) $
       looks t z (row D) (Is (row D)) (shows 𝓤 H A (row D)) (LL.vals D L) (LL.tells D L) (LL.copy D cs 𝓤 H A W) (x .now) (x .ptr .0) (x .ptr .1) (λ q′ vs.
       spelt t (row D) (Is (row D)) (shows 𝓤 H A (row D)) (LL.vals D L) (LL.tells D L) q′ (x .now) vs (x .ptr .0) (x .ptr .1) $
-      move t (3 ∷ []) $ drop t $ move t (1 ∷ []) $ peeks t (row D) (Is (row D)) (shows 𝓤 H A (row D)) (x .now) (LL.vals D L (x .now)) (λ is. move t (1 ∷ 0 ∷ []) $ k q′ is))
+      move t (3 ∷ []) $ drop t $ move t (1 ∷ []) $ peeks t (row D) (Is (row D)) (shows 𝓤 H A (row D)) (x .now) (LL.vals D L (x .now))
+      (λ is. move t (1 ∷ 0 ∷ []) $ k q′ is))

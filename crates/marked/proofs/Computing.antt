@@ -28,5 +28,12 @@ use Rattle.bus.specs.Reader.{descriptorAt}
 use Rattle.machine.specs.Machine.{fresh}
 
 unfoldable pub computing : Unit {0}
-unfolding kept listed controlRead all any sum firstFrom stored valueAt signedBy rights descriptorAt first second walk covers lookup translated apOf placed flushed dropped buffer.laid buffer.oldestLeft buffer.leaving buffer.drained buffer.behind buffer.pushed buffer.halfPushed buffer.newestOf buffer.joined buffer.buffered buffer.meets buffer.holds buffer.ready cache.find cache.hitLoad cache.hitStore cache.halvesSent cache.lineRead cache.filled cache.cleanedAt cache.cleaned cache.flushedAt cache.lineFlushed cache.allFlushed fresh sound tagsSound tagTwice entrySound lineSound slotSound bufferSound registersSound countsSound zeroOutside cleared translation walkedOnly checkedBy faultSet decided aborts firstMet reach.decision reach.committed reach.faulted loads.loadHit loads.loadFill loads.loadUncached loads.loadMiss loads.load stores.storeHit stores.storeBuffered stores.storeDirect stores.storeMiss stores.store access.accessAt access.access readOf writtenOf cp15.operated cp15.read cp15.write refusal stateRefusal startRefusal started served answersOf finalOf
+unfolding kept listed controlRead all any sum firstFrom stored valueAt signedBy rights descriptorAt first second walk covers lookup translated apOf
+    placed flushed dropped buffer.laid buffer.oldestLeft buffer.leaving buffer.drained buffer.behind buffer.pushed buffer.halfPushed buffer.newestOf
+    buffer.joined buffer.buffered buffer.meets buffer.holds buffer.ready cache.find cache.hitLoad cache.hitStore cache.halvesSent cache.lineRead
+    cache.filled cache.cleanedAt cache.cleaned cache.flushedAt cache.lineFlushed cache.allFlushed fresh sound tagsSound tagTwice entrySound lineSound
+    slotSound bufferSound registersSound countsSound zeroOutside cleared translation walkedOnly checkedBy faultSet decided aborts firstMet
+    reach.decision reach.committed reach.faulted loads.loadHit loads.loadFill loads.loadUncached loads.loadMiss loads.load stores.storeHit
+    stores.storeBuffered stores.storeDirect stores.storeMiss stores.store access.accessAt access.access readOf writtenOf cp15.operated cp15.read
+    cp15.write refusal stateRefusal startRefusal started served answersOf finalOf
 computing = tt

@@ -1,7 +1,26 @@
 -- M1 to M12 of document 01, of the definitions: each by computation, and the table of them.
 use mathlib.Core.Path.{refl}
 use Rattle.marked.proofs.Computing.{computing}
-use Rattle.marked.specs.MarkedCases.{MarkedCases, M1, M2, M3, M4-set, M4-clear, M5-set, M5-tag, M6-word, M6, M7, M8-word, M8, M9, M9-domain, M10, M11, M12}
+use Rattle.marked.specs.MarkedCases.{
+  MarkedCases,
+  M1,
+  M2,
+  M3,
+  M4-set,
+  M4-clear,
+  M5-set,
+  M5-tag,
+  M6-word,
+  M6,
+  M7,
+  M8-word,
+  M8,
+  M9,
+  M9-domain,
+  M10,
+  M11,
+  M12,
+}
 
 m1 : M1
 unfolding computing

@@ -59,5 +59,6 @@ pub right-by : (value ap′ control p w : ℕ) (privileged store : Bool) → val
 right-by value ap′ control p w privileged store hv ha ep ew =
     let s : number (bit control 8) ≡ control / 256 % 2 = bit-number control 8 in
     let r : number (bit control 9) ≡ control / 512 % 2 = bit-number control 9 in
-    let e : value * 64 + ap′ * 16 + control / 256 % 2 * 8 + control / 512 % 2 * 4 + p * 2 + w ≡ indexOf value ap′ (bit control 8) (bit control 9) privileged store = omega arith in
+    let e : value * 64 + ap′ * 16 + control / 256 % 2 * 8 + control / 512 % 2 * 4 + p * 2 + w
+    ≡ indexOf value ap′ (bit control 8) (bit control 9) privileged store = omega arith in
     ap (λ (k : ℕ). getD rightsTable k 0) e ∙ right-at value ap′ (bit control 8) (bit control 9) privileged store hv ha

@@ -53,7 +53,8 @@ module _ (long kept : ℕ) where
   walked-inside n whole h va (Failed s d) = tt
 
   module _ (m : Machine) (va : VirtualAddress) where
-    found-inside : Accepts m → length (memoryOf m) ≤ long → 16384 ≤ kept → (x : Search) → find (m .side .cache .lines) va ≡ x → Inside long kept (foundLine m va x)
+    found-inside : Accepts m → length (memoryOf m) ≤ long → 16384 ≤ kept → (x : Search) → find (m .side .cache .lines) va ≡ x →
+        Inside long kept (foundLine m va x)
     found-inside a h k (At i) f = let l = found (m .side .cache .lines) va i f .low in omega arith
     found-inside a h k Nothing f =
         case (mmu (m .cp15 .registers))

@@ -100,7 +100,8 @@ module _ (memory store : List ℕ) (s : State) (r : Cp15) (bs : List (List ℕ))
       let a = acc in
       let f = formed-of (listsIn memory store s bs) (s .entries) (scalarsIn s r) (s .size) e ls ps (a .store) sb ws k rows (a .whole) (a .short) mb in
       subst (λ (n : ℕ). Serves (machineOf (listsIn memory store s bs) (s .entries) (scalarsIn s r) n)) (a .size)
-      (subst (λ (x : List (List ℕ)). Formed (machineOf (listsIn memory store s x) (s .entries) (scalarsIn s r) (s .size)) → Serves (machineOf (listsIn memory store s x) (s .entries) (scalarsIn s r) (s .size))) (sym b)
+      (subst (λ (x : List (List ℕ)). Formed (machineOf (listsIn memory store s x) (s .entries) (scalarsIn s r) (s .size)) →
+      Serves (machineOf (listsIn memory store s x) (s .entries) (scalarsIn s r) (s .size))) (sym b)
       (λ g. record { formed = g; is-sound = a .is-sound; size = a .size }) f)
 
   pub called-by : (k : Lists) (fs : List ℕ) (o : Outcome) (c : Call) (held : List SlotBytes)
@@ -123,7 +124,8 @@ module _ (memory store : List ℕ) (s : State) (r : Cp15) (bs : List (List ℕ))
       ≡ served (machineIn memory store s r) c
   called-by k fs o c held e g =
       let a = acc in
-      rw (g, a .size) (subst (λ (x : List (List ℕ)). steppedOf k fs (length memory) o ≡ served (machineOf (listsIn memory store s x) (s .entries) (scalarsIn s r) (length memory)) c) b e)
+      rw (g, a .size) (subst (λ (x : List (List ℕ)). steppedOf k fs (length memory) o
+      ≡ served (machineOf (listsIn memory store s x) (s .entries) (scalarsIn s r) (length memory)) c) b e)
 
   pub ran-by : (k : Lists) (fs answers : List ℕ) (t : Scalars) (made : ℕ) (held : List SlotBytes) (n : ℕ) (calls old : List ℕ)
       → leaves (machineOf k fs t (length memory)) answers made
@@ -146,4 +148,5 @@ module _ (memory store : List ℕ) (s : State) (r : Cp15) (bs : List (List ℕ))
       ≡ leftBy (machineIn memory store s r) (callsIn n calls 0) old
   ran-by k fs answers t made held n calls old e g =
       let a = acc in
-      rw (g, a .size) (subst (λ (x : List (List ℕ)). leaves (machineOf k fs t (length memory)) answers made ≡ leftBy (machineOf (listsIn memory store s x) (s .entries) (scalarsIn s r) (length memory)) (callsIn n calls 0) old) b e)
+      rw (g, a .size) (subst (λ (x : List (List ℕ)). leaves (machineOf k fs t (length memory)) answers made
+      ≡ leftBy (machineOf (listsIn memory store s x) (s .entries) (scalarsIn s r) (length memory)) (callsIn n calls 0) old) b e)

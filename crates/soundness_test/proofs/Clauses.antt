@@ -166,7 +166,12 @@ module _ (w : ℕ) (small′ : w < 0x10000000000000000) where
   pub in-range : w / 8 % 32 < 3 → entryInRange (entryOf w) ≡ (vtest && (ptest && ltb (w / 256 % 256) 16))
   unfolding entryOf
   in-range h =
-      rw (lt-ltb (w / 8 % 32) 3 h, lt-ltb (w / 0x100000000000 * 4096) 0x100000000 (omega arith), lt-ltb (w / 0x1000000 % 0x100000 * 4096) 0x100000000 (omega arith), lt-ltb (w / 0x10000 % 256) 256 (omega arith))
+      rw (
+        lt-ltb (w / 8 % 32) 3 h,
+        lt-ltb (w / 0x100000000000 * 4096) 0x100000000 (omega arith),
+        lt-ltb (w / 0x1000000 % 0x100000 * 4096) 0x100000000 (omega arith),
+        lt-ltb (w / 0x10000 % 256) 256 (omega arith),
+      )
       (shuffle vtest ptest (ltb (w / 256 % 256) 16))
     where
       shuffle : (a b c : Bool) → (a && (b && (c && true))) ≡ (a && (b && c))
@@ -212,7 +217,8 @@ module _ (w : ℕ) (small′ : w < 0x10000000000000000) where
           small w (below-eight w x4) (even w e) c′ b′
 
       empty : (z : Bool) → eqb w 0 ≡ z
-          → (eqb (w / 8 % 32) 0 && (eqb (w / 0x100000000000 * 4096) 0 && (eqb (w / 0x1000000 % 0x100000 * 4096) 0 && (eqb (w / 256 % 256) 0 && (eqb (w / 0x10000 % 256) 0
+          → (eqb (w / 8 % 32) 0 && (eqb (w / 0x100000000000 * 4096) 0 &&
+          (eqb (w / 0x1000000 % 0x100000 * 4096) 0 && (eqb (w / 256 % 256) 0 && (eqb (w / 0x10000 % 256) 0
           && (not (bit w 1) && not (bit w 2))))))) ≡ z
       empty true z = let k : w ≡ 0 = eqb-true w 0 z in rw k
       empty false z =
@@ -234,7 +240,8 @@ module _ (w : ℕ) (small′ : w < 0x10000000000000000) where
           (λ b.
           absurd
           (eqb-false w 0 z
-          (all-zero (eqb-true (w / 8 % 32) 0 s) (eqb-true (w / 0x100000000000 * 4096) 0 v) (eqb-true (w / 0x1000000 % 0x100000 * 4096) 0 p) (eqb-true (w / 256 % 256) 0 d) (eqb-true (w / 0x10000 % 256) 0 a)
+          (all-zero (eqb-true (w / 8 % 32) 0 s) (eqb-true (w / 0x100000000000 * 4096) 0 v) (eqb-true (w / 0x1000000 % 0x100000 * 4096) 0 p)
+          (eqb-true (w / 256 % 256) 0 d) (eqb-true (w / 0x10000 % 256) 0 a)
           (eqb-false (w / 2 % 2) 1 c) (eqb-false (w / 4 % 2) 1 b))))))
           (λ a. rw (s, v, p, d, a)))
           (λ d. rw (s, v, p, d)))

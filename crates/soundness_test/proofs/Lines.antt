@@ -105,7 +105,10 @@ module _ (w : ℕ) where
         turned false false = refl
 
         empty : (z : Bool) → eqb w 0 ≡ z → z ≡ (fits w && (inside spare w && z))
-        empty true z = let k : w ≡ 0 = eqb-true w 0 z in rw (lt-ltb w 0x80000000000000 (omega arith), lt-ltb (w % 0x100000000 + spare) 0x100000000 (let l = spared-low n spare s in omega arith))
+        empty true z = let k : w ≡ 0 = eqb-true w 0 z in rw (
+          lt-ltb w 0x80000000000000 (omega arith),
+          lt-ltb (w % 0x100000000 + spare) 0x100000000 (let l = spared-low n spare s in omega arith),
+        )
         empty false z = sym (and-false (fits w) (inside spare w && false) (and-false (inside spare w) false refl))
 
 -- ---- the tests of all words

@@ -150,7 +150,8 @@ module _ (n used : ℕ) (ws : List ℕ) (bs : List (List ℕ)) where
         empties : all slotEmpty (drop used slots) ≡ true
         empties =
             all-true slotEmpty emptySlot (drop used slots)
-            (λ j h. let h′ : j < 8 - used = rw back-long at h in ap slotEmpty (back j (omega arith)) ∙ (rw (le-ltb (used + j) used (omega arith)) at (f .each (used + j) (omega arith))))
+            (λ j h. let h′ : j < 8 - used = rw back-long at h in ap slotEmpty (back j (omega arith)) ∙
+            (rw (le-ltb (used + j) used (omega arith)) at (f .each (used + j) (omega arith))))
 
     pub place-bad : (i : ℕ) → i < 8 → asked n used ws bs i ≡ false → bufferSound n (bufferFrom (slotsOf ws bs) used) ≡ false
     unfolding bufferSound
@@ -158,13 +159,15 @@ module _ (n used : ℕ) (ws : List ℕ) (bs : List (List ℕ)) where
         case (ltb i used)
         (λ t.
         let k = ltb-true i used t in
-        let s : all (slotSound n) (take used slots) ≡ false = all-false (slotSound n) emptySlot (take used slots) i (rw front-long k) (ap (slotSound n) (front i k) ∙ (rw t at e)) in
+        let s : all (slotSound n) (take used slots) ≡ false = all-false (slotSound n) emptySlot (take used slots) i (rw front-long k)
+        (ap (slotSound n) (front i k) ∙ (rw t at e)) in
         rw (le-leb used 8 low, s))
         (λ t.
         let k = ltb-false i used t in
         let q : used + (i - used) ≡ i = omega arith in
         let s : all slotEmpty (drop used slots) ≡ false =
-        all-false slotEmpty emptySlot (drop used slots) (i - used) (rw back-long (omega arith)) (ap slotEmpty (back (i - used) (omega arith)) ∙ rw q (rw t at e)) in
+        all-false slotEmpty emptySlot (drop used slots) (i - used) (rw back-long (omega arith))
+        (ap slotEmpty (back (i - used) (omega arith)) ∙ rw q (rw t at e)) in
         rw (le-leb used 8 low, s) (never (all (slotSound n) (take used slots))))
       where
         never : (b : Bool) → (b && false) ≡ false
@@ -195,7 +198,14 @@ module _ (r : Registers) where
       unfolding registersSound
       fsr-test b hb hd hf =
           let e : r .base / 16384 * 16384 ≡ r .base = omega arith in
-          rw (eq-eqb (kept (r .control)) (r .control) k, l, eq-eqb (r .base / 16384 * 16384) (r .base) e, lt-ltb (r .base) 0x100000000 hb, lt-ltb (r .domains) 0x100000000 hd, lt-ltb (r .far) 0x100000000 hf)
+          rw (
+            eq-eqb (kept (r .control)) (r .control) k,
+            l,
+            eq-eqb (r .base / 16384 * 16384) (r .base) e,
+            lt-ltb (r .base) 0x100000000 hb,
+            lt-ltb (r .domains) 0x100000000 hd,
+            lt-ltb (r .far) 0x100000000 hf,
+          )
           (always (ltb (r .fsr) 256))
         where
           always : (x : Bool) → (x && true) ≡ x

@@ -17,7 +17,10 @@ pub twice-none : (l : List Line) → ((i j : ℕ) → i < j → j < length l →
 unfolding tagTwice
 twice-none [] f = refl
 twice-none (x ∷ xs) f =
-    rw (any-none (sameTag x) emptyLine xs (λ j h. f 0 (suc j) (omega arith) (omega arith)), twice-none xs (λ i j k h. f (suc i) (suc j) (omega arith) (omega arith)))
+    rw (
+      any-none (sameTag x) emptyLine xs (λ j h. f 0 (suc j) (omega arith) (omega arith)),
+      twice-none xs (λ i j k h. f (suc i) (suc j) (omega arith) (omega arith)),
+    )
 
 pub twice-some : (l : List Line) (i j : ℕ) → i < j → j < length l → sameTag (getD l i emptyLine) (getD l j emptyLine) ≡ true → tagTwice l ≡ true
 unfolding tagTwice

@@ -148,7 +148,8 @@ module _ (calls answers₀ : List ℕ) (n refusal : ℕ) (r : Holds calls answer
           whole = whole-on stays (refuses refusal) calls answers₀ n tt answers tt i (g .whole) tt a h t refl f;
         }
 
-    pub refusing-stop : i < n → isCallAt calls i ≡ false → leaves {S = Unit {0}} tt answers i ≡ refusedAll {S = Unit {0}} refusal tt (callsIn n calls 0) answers₀
+    pub refusing-stop : i < n → isCallAt calls i ≡ false → leaves {S = Unit {0}} tt answers i ≡ refusedAll {S = Unit {0}} refusal tt
+        (callsIn n calls 0) answers₀
     refusing-stop = whole-stop stays (refuses refusal) calls answers₀ n tt answers tt i (g .whole)
 
     pub refusing-end : n ≤ i → leaves {S = Unit {0}} tt answers i ≡ refusedAll {S = Unit {0}} refusal tt (callsIn n calls 0) answers₀

@@ -52,8 +52,12 @@ module _ (memory store : List ℕ) (mb : Bytes memory) (sb : Bytes store) (e : s
       × (length (memoryOf (started memory store .machine)) ≡ length memory) × (started memory store .machine .size ≡ length memory)
   start-sound =
       let n = length memory in
-      let h = start-holding in
-      (holding-formed n n (started memory store .machine) h, holding-sound n n (started memory store .machine) h start-counts, h .side .backing .memory-long, h .size)
+      let h = start-holding in (
+        holding-formed n n (started memory store .machine) h,
+        holding-sound n n (started memory store .machine) h start-counts,
+        h .side .backing .memory-long,
+        h .size,
+      )
 
 -- ---- a call that is not refused
 

@@ -47,7 +47,8 @@ module _ (m : Machine) where
   pub refused-lent : (n : ℕ) → n ≡ refusalIn (row1 (length (memoryOf m)) ∷ row2 (length (storeOf m)) ∷ []) → (n ≡ 0 → ⊥) → n ≡ stateRefusal m
   unfolding stateRefusal
   refused-lent n e z =
-      e ∙ sym (rows-met (row1 (length (memoryOf m)) ∷ row2 (length (storeOf m)) ∷ []) (row3 (sound m) ∷ row4 (m .size) (length (memoryOf m)) ∷ []) (λ h. z (e ∙ h)))
+      e ∙ sym (rows-met (row1 (length (memoryOf m)) ∷ row2 (length (storeOf m)) ∷ []) (row3 (sound m) ∷ row4 (m .size) (length (memoryOf m)) ∷ [])
+      (λ h. z (e ∙ h)))
 
   module _ (e : lengthFits (length (memoryOf m)) ≡ true) (g : length (storeOf m) ≡ 16384) where
     pub refused-unsound : sound m ≡ false → 3 ≡ stateRefusal m

@@ -73,7 +73,8 @@ module _ (va : VirtualAddress) (w : ℕ) (k : Keys) (e : k ≡ keysOf va) where
     no-small s t =
         covers-small va w v s t
         ∙ ne-eqb (va .0 / 4096 * 4096) (w / 0x100000000000 * 4096)
-        (λ b. let y : w / 8 % 32 ≡ 2 = two s t in let f : keyOf w ≡ va .0 / 4096 * 0x100000000000 + 17 = omega arith in r (f ∙ sym (ap (λ (x : Keys). x .small) e)))
+        (λ b. let y : w / 8 % 32 ≡ 2 = two s t in let f : keyOf w ≡ va .0 / 4096 * 0x100000000000 + 17 = omega arith in
+        r (f ∙ sym (ap (λ (x : Keys). x .small) e)))
       where
         two : (w / 8 % 32 ≡ 0 → ⊥) → (w / 8 % 32 ≡ 1 → ⊥) → w / 8 % 32 ≡ 2
         two s t = omega arith

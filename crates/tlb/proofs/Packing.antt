@@ -81,7 +81,8 @@ entry-word e r =
     let v = number (e .valid) in
     let c = number (e .cacheable) in
     let b = number (e .bufferable) in
-    let fs = fields v c b (e .size) (e .domain) (e .aps) (e .pbase / 4096) (e .vbase / 4096) (number-low (e .valid)) (number-low (e .cacheable)) (number-low (e .bufferable)) (omega (arith, r .size)) (omega (arith, r .domain)) (r .aps) (omega (arith, r .pbase-low)) in
+    let fs = fields v c b (e .size) (e .domain) (e .aps) (e .pbase / 4096) (e .vbase / 4096) (number-low (e .valid)) (number-low (e .cacheable))
+    (number-low (e .bufferable)) (omega (arith, r .size)) (omega (arith, r .domain)) (r .aps) (omega (arith, r .pbase-low)) in
     let w = v + 2 * (c + 2 * (b + 2 * (e .size + 32 * (e .domain + 256 * (e .aps + 256 * (e .pbase / 4096 + 0x100000 * (e .vbase / 4096))))))) in
     let f0 : eqb (w / 1 % 2) 1 ≡ e .valid = bit-of (w / 1 % 2) (e .valid) (fs .is-v) in
     let f1 : eqb (w / 2 % 2) 1 ≡ e .cacheable = bit-of (w / 2 % 2) (e .cacheable) (fs .is-c) in

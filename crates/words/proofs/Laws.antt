@@ -117,5 +117,6 @@ load-same (suc n) m a v h k =
     let p : 256 ^ suc n ≡ 256 ^ n * 256 = pow-suc 256 n in
     let lt : v / 256 < 256 ^ n = omega arith in
     let e : valueAt n (stored n l (a + 1) (v / 256)) (a + 1) ≡ v / 256 = load-same n l (a + 1) (v / 256) (simp length-set (omega arith)) lt in
-    let f : getD (stored n l (a + 1) (v / 256)) a 0 ≡ v % 256 = byte-before n l (a + 1) (v / 256) a (omega arith) ∙ getD-set-same m a (v % 256) 0 (omega arith) in
+    let f : getD (stored n l (a + 1) (v / 256)) a 0 ≡ v % 256 = byte-before n l (a + 1) (v / 256) a (omega arith)
+    ∙ getD-set-same m a (v % 256) 0 (omega arith) in
     rw (e, f) (omega arith)

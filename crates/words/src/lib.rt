@@ -137,7 +137,7 @@ fn signed_half(x: u32) -> i32
     requires { ⌜ x < 0x10000 ⌝ }
     ensures { λ r. ⌜ r ≡ signedOf 2 x ⌝ }
 {
-    if x < 32768 {
+    if x < 0x8000 {
         x as i32
     } else {
         !((0xFFFF - x) as i32)

@@ -14,10 +14,8 @@ enum-known-k c = search needs
 
 store-requires : tie.Need-store-requires
 store-requires c κs =
-    let b1 = c .before in let b2 = b1 .before in let b3 = b2 .before in let b4 = b3 .before in let b5 = b4 .before in let b6 = b5 .before in
-    let b7 = b6 .before in let b8 = b7 .before in let b9 = b8 .before in let b10 = b9 .before in let b11 = b10 .before in
-    let b12 = b11 .before in let b13 = b12 .before in
-    (b13 .pre .0 .fits, b13 .pre .0 .lines-long, b13 .pre .0 .store-long, b13 .pre .0 .whole, b13 .pre .0 .hits, b13 .pre .1, b13 .pre .2)
+    let start = c .before .before .before .before .before .before .before .before .before .before .before .before .before in
+    (start .pre .0 .fits, start .pre .0 .lines-long, start .pre .0 .store-long, start .pre .0 .whole, start .pre .0 .hits, start .pre .1, start .pre .2)
 
 same-length : tie.Need-same-length
 same-length c = search needs
@@ -36,16 +34,14 @@ same-length-5 c = search needs
 
 returns : tie.Need-returns
 returns c =
-    let b1 = c .before in let b2 = b1 .before in let b3 = b2 .before in let b4 = b3 .before in let b5 = b4 .before in let b6 = b5 .before in
-    let b7 = b6 .before in let b8 = b7 .before in let b9 = b8 .before in let b10 = b9 .before in let b11 = b10 .before in
-    let b12 = b11 .before in let b13 = b12 .before in let b14 = b13 .before in let b15 = b14 .before in let b16 = b15 .before in
-    let b17 = b16 .before in let b18 = b17 .before in let b19 = b18 .before in let b20 = b19 .before in let b21 = b20 .before in
-    let b22 = b21 .before in let b23 = b22 .before in
-    let a = b23 .args in
+    let after-load = c .before .before .before .before .before .before .before .before .before .before in
+    let after-match = after-load .before .before .before .before .before .before .before in
+    let start = after-match .before .before .before .before .before .before in
+    let a = start .args in
     let l = (lists (now (a .memory)) (now (a .words)) (now (a .bytes)) (now (a .lines)) (now (a .pointers)) (now (a .store))) in
     record {
-      same = λ es n. b10 .load .ensures .same es n ∙ sym (loads-by (machineOf l es (a .s) n) (a .a) (a .p) (a .a .kind) (b17 .match .keys1));
-      bytes-long = b10 .load .ensures .bytes-long;
+      same = λ es n. after-load .load .ensures .same es n ∙ sym (loads-by (machineOf l es (a .s) n) (a .a) (a .p) (a .a .kind) (after-match .match .keys1));
+      bytes-long = after-load .load .ensures .bytes-long;
     }
 
 same-length-6 : tie.Need-same-length-6
@@ -62,15 +58,15 @@ same-length-9 c = search needs
 
 returns-2 : tie.Need-returns-2
 returns-2 c =
-    let b1 = c .before in let b2 = b1 .before in let b3 = b2 .before in let b4 = b3 .before in let b5 = b4 .before in let b6 = b5 .before in
-    let b7 = b6 .before in let b8 = b7 .before in let b9 = b8 .before in let b10 = b9 .before in let b11 = b10 .before in
-    let b12 = b11 .before in let b13 = b12 .before in let b14 = b13 .before in let b15 = b14 .before in let b16 = b15 .before in
-    let b17 = b16 .before in let b18 = b17 .before in let b19 = b18 .before in let b20 = b19 .before in let b21 = b20 .before in
-    let b22 = b21 .before in
-    let a = b22 .args in
-    let k = b8 .store2 .ensures (now (a .pointers)) in
+    let after-store2 = c .before .before .before .before .before .before .before .before in
+    let of-k = after-store2 .before .before .before .before .before .before .before in
+    let start = of-k .before .before .before .before .before .before .before in
+    let a = start .args in
+    let k = after-store2 .store2 .ensures (now (a .pointers)) in
     record {
-      same = λ es n. k .same es n ∙ sym (stores-by (machineOf (lists (now (a .memory)) (now (a .words)) (now (a .bytes)) (now (a .lines)) (now (a .pointers)) (now (a .store))) es (a .s) n) (a .a) (a .p) (a .a .kind) _ (b15 .k .given .1));
+      same = λ es n. k .same es n ∙ sym (stores-by
+          (machineOf (lists (now (a .memory)) (now (a .words)) (now (a .bytes)) (now (a .lines)) (now (a .pointers)) (now (a .store))) es (a .s) n) (a .a)
+          (a .p) (a .a .kind) _ (of-k .k .given .1));
       bytes-long = k .bytes-long;
     }
 

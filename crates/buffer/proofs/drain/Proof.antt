@@ -12,13 +12,15 @@ use Rattle.buffer.proofs.drain.Statement.{statement}
 use Rattle.buffer.proofs.drain.Tie as tie
 
 abbrev Inv-loop : tie.InvT-loop
-Inv-loop memory₀ words₀ used left₀ n₀ memory words left n = Fits memory words left n × (leaving n (backingOf memory words left n) ≡ leaving used (backingOf memory₀ words₀ left₀ used)) × (length memory ≡ length memory₀) × (length words ≡ length words₀)
+Inv-loop memory₀ words₀ used left₀ n₀ memory words left n = Fits memory words left n ×
+    (leaving n (backingOf memory words left n) ≡ leaving used (backingOf memory₀ words₀ left₀ used)) × (length memory ≡ length memory₀) ×
+    (length words ≡ length words₀)
 
 abbrev μ-loop : tie.MeasureT-loop
 μ-loop memory₀ words₀ used left₀ n₀ memory words left n = n
 
 loop-holds : tie.Need-loop-holds Inv-loop μ-loop
-loop-holds c = (c .before .before .pre, refl, refl, refl)
+loop-holds c = let start = c .before .before in (start .pre, refl, refl, refl)
 
 slice-aggregate-oldest-leaves : tie.Need-slice-aggregate-oldest-leaves Inv-loop μ-loop
 slice-aggregate-oldest-leaves c = search needs
@@ -64,7 +66,8 @@ returns c = let at-loop = c .before in
     let b = backingOf (now (a .memory)) (now (a .words)) (a .bytes) (a .used) in
     let z : l .n ≡ 0 = omega (arith, c .loop-test .left) in
     let f : Fits (l .memory) (l .words) (l .left) 0 = subst (λ (k : ℕ). Fits (l .memory) (l .words) (l .left) k) z (l .inv .0) in
-    let g : leaving 0 (backingOf (l .memory) (l .words) (l .left) 0) ≡ leaving (a .used) b = subst (λ (k : ℕ). leaving k (backingOf (l .memory) (l .words) (l .left) k) ≡ leaving (a .used) b) z (l .inv .1) in
+    let g : leaving 0 (backingOf (l .memory) (l .words) (l .left) 0) ≡ leaving (a .used) b = subst
+    (λ (k : ℕ). leaving k (backingOf (l .memory) (l .words) (l .left) k) ≡ leaving (a .used) b) z (l .inv .1) in
     record { same = drain-end b (a .used) (backingOf (l .memory) (l .words) (l .left) 0) 0 (omega arith) g; fits = f }
 
 pub drain-spec : {M : Type 1} → statement M

@@ -14,7 +14,8 @@ use Rattle.buffer.proofs.holds_access.Tie as tie
 use Rattle.buffer.specs.Buffer.{bufferFrom}
 
 abbrev Inv-loop : tie.InvT-loop
-Inv-loop words used pa width i₀ i = (i ≤ used) × ((bytes : List (List ℕ)) → length bytes ≡ 8 → any (meets width (pa .0)) (drop i (take used (slotsOf words bytes))) ≡ holds (bufferFrom (slotsOf words bytes) used) (pa .0) width)
+Inv-loop words used pa width i₀ i = (i ≤ used) × ((bytes : List (List ℕ)) → length bytes ≡ 8 →
+    any (meets width (pa .0)) (drop i (take used (slotsOf words bytes))) ≡ holds (bufferFrom (slotsOf words bytes) used) (pa .0) width)
 
 abbrev μ-loop : tie.MeasureT-loop
 μ-loop words used pa width i₀ i = used - i
@@ -40,7 +41,8 @@ returns c = let after-meets-access = c .before in
     let start = at-loop .before .before in
     let a = start .args in
     let l = at-loop .loop in
-    λ bytes h. sym (hold-hit (a .width) (a .pa .0) (now (a .words)) bytes (a .used) (start .pre .0) h (start .pre .1) (l .i) (in-loop .loop-test .taken) (sym (after-meets-access .meets-access .ensures _) ∙ c .if1 .taken)) ∙ l .inv .1 bytes h
+    λ bytes h. sym (hold-hit (a .width) (a .pa .0) (now (a .words)) bytes (a .used) (start .pre .0) h (start .pre .1) (l .i)
+    (in-loop .loop-test .taken) (sym (after-meets-access .meets-access .ensures _) ∙ c .if1 .taken)) ∙ l .inv .1 bytes h
 
 add-i : tie.Need-add-i Inv-loop μ-loop
 add-i c = search needs
@@ -54,15 +56,19 @@ loop-again c = let after-meets-access = c .before in
     let at-loop = in-loop .before in
     let start = at-loop .before .before in
     let a = start .args in
-    let l = at-loop .loop in
-    (omega arith, λ bytes h. sym (hold-on (a .width) (a .pa .0) (now (a .words)) bytes (a .used) (start .pre .0) h (start .pre .1) (l .i) (in-loop .loop-test .taken) (sym (after-meets-access .meets-access .ensures _) ∙ c .if1 .left)) ∙ l .inv .1 bytes h)
+    let l = at-loop .loop in (
+      omega arith,
+      λ bytes h. sym (hold-on (a .width) (a .pa .0) (now (a .words)) bytes (a .used) (start .pre .0) h (start .pre .1) (l .i)
+          (in-loop .loop-test .taken) (sym (after-meets-access .meets-access .ensures _) ∙ c .if1 .left)) ∙ l .inv .1 bytes h,
+    )
 
 returns-2 : tie.Need-returns-2 Inv-loop μ-loop
 returns-2 c = let at-loop = c .before in
     let start = at-loop .before .before in
     let a = start .args in
     let l = at-loop .loop in
-    λ bytes h. sym (hold-end (a .width) (a .pa .0) (now (a .words)) bytes (a .used) (start .pre .0) h (start .pre .1) (l .i) (c .loop-test .left)) ∙ l .inv .1 bytes h
+    λ bytes h. sym (hold-end (a .width) (a .pa .0) (now (a .words)) bytes (a .used) (start .pre .0) h (start .pre .1) (l .i) (c .loop-test .left))
+    ∙ l .inv .1 bytes h
 
 pub holds-access-spec : {M : Type 1} → statement M
 holds-access-spec =

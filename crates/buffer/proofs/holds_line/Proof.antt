@@ -14,7 +14,8 @@ use Rattle.buffer.proofs.holds_line.Tie as tie
 use Rattle.buffer.specs.Buffer.{bufferFrom}
 
 abbrev Inv-loop : tie.InvT-loop
-Inv-loop words used frame i₀ i = (i ≤ used) × ((bytes : List (List ℕ)) → length bytes ≡ 8 → any (meets 32 (frame * 32)) (drop i (take used (slotsOf words bytes))) ≡ holds (bufferFrom (slotsOf words bytes) used) (frame * 32) 32)
+Inv-loop words used frame i₀ i = (i ≤ used) × ((bytes : List (List ℕ)) → length bytes ≡ 8 →
+    any (meets 32 (frame * 32)) (drop i (take used (slotsOf words bytes))) ≡ holds (bufferFrom (slotsOf words bytes) used) (frame * 32) 32)
 
 abbrev μ-loop : tie.MeasureT-loop
 μ-loop words used frame i₀ i = used - i
@@ -39,7 +40,8 @@ returns c = let after-meets-line = c .before in
     let start = at-loop .before .before in
     let a = start .args in
     let l = at-loop .loop in
-    λ bytes h. sym (hold-hit 32 (a .frame * 32) (now (a .words)) bytes (a .used) (start .pre .0) h (start .pre .1) (l .i) (in-loop .loop-test .taken) (sym (after-meets-line .meets-line .ensures _) ∙ c .if1 .taken)) ∙ l .inv .1 bytes h
+    λ bytes h. sym (hold-hit 32 (a .frame * 32) (now (a .words)) bytes (a .used) (start .pre .0) h (start .pre .1) (l .i) (in-loop .loop-test .taken)
+    (sym (after-meets-line .meets-line .ensures _) ∙ c .if1 .taken)) ∙ l .inv .1 bytes h
 
 add-i : tie.Need-add-i Inv-loop μ-loop
 add-i c = search needs
@@ -53,15 +55,19 @@ loop-again c = let after-meets-line = c .before in
     let at-loop = in-loop .before in
     let start = at-loop .before .before in
     let a = start .args in
-    let l = at-loop .loop in
-    (omega arith, λ bytes h. sym (hold-on 32 (a .frame * 32) (now (a .words)) bytes (a .used) (start .pre .0) h (start .pre .1) (l .i) (in-loop .loop-test .taken) (sym (after-meets-line .meets-line .ensures _) ∙ c .if1 .left)) ∙ l .inv .1 bytes h)
+    let l = at-loop .loop in (
+      omega arith,
+      λ bytes h. sym (hold-on 32 (a .frame * 32) (now (a .words)) bytes (a .used) (start .pre .0) h (start .pre .1) (l .i)
+          (in-loop .loop-test .taken) (sym (after-meets-line .meets-line .ensures _) ∙ c .if1 .left)) ∙ l .inv .1 bytes h,
+    )
 
 returns-2 : tie.Need-returns-2 Inv-loop μ-loop
 returns-2 c = let at-loop = c .before in
     let start = at-loop .before .before in
     let a = start .args in
     let l = at-loop .loop in
-    λ bytes h. sym (hold-end 32 (a .frame * 32) (now (a .words)) bytes (a .used) (start .pre .0) h (start .pre .1) (l .i) (c .loop-test .left)) ∙ l .inv .1 bytes h
+    λ bytes h. sym (hold-end 32 (a .frame * 32) (now (a .words)) bytes (a .used) (start .pre .0) h (start .pre .1) (l .i) (c .loop-test .left))
+    ∙ l .inv .1 bytes h
 
 pub holds-line-spec : {M : Type 1} → statement M
 holds-line-spec =

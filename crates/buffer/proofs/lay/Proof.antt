@@ -12,7 +12,8 @@ use Rattle.buffer.proofs.lay.Statement.{statement}
 use Rattle.buffer.proofs.lay.Tie as tie
 
 abbrev Inv-loop : tie.InvT-loop
-Inv-loop memory₀ at mask bytes left₀ i₀ memory left i = (i ≤ 16) × (length memory ≡ length memory₀) × (laid memory (at + i) left (drop i bytes) ≡ laid memory₀ at mask bytes)
+Inv-loop memory₀ at mask bytes left₀ i₀ memory left i = (i ≤ 16) × (length memory ≡ length memory₀) ×
+    (laid memory (at + i) left (drop i bytes) ≡ laid memory₀ at mask bytes)
 
 abbrev μ-loop : tie.MeasureT-loop
 μ-loop memory₀ at mask bytes left₀ i₀ memory left i = 16 - i

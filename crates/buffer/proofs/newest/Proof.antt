@@ -12,7 +12,8 @@ use Rattle.buffer.proofs.newest.Statement.{statement}
 use Rattle.buffer.proofs.newest.Tie as tie
 
 abbrev Inv-loop : tie.InvT-loop
-Inv-loop words used block n₀ n = (n ≤ used) × ((bytes : List (List ℕ)) → length bytes ≡ 8 → newestOf (slotsOf words bytes) block n ≡ newestOf (slotsOf words bytes) block used)
+Inv-loop words used block n₀ n = (n ≤ used) × ((bytes : List (List ℕ)) → length bytes ≡ 8 →
+    newestOf (slotsOf words bytes) block n ≡ newestOf (slotsOf words bytes) block used)
 
 abbrev μ-loop : tie.MeasureT-loop
 μ-loop words used block n₀ n = n

@@ -50,7 +50,8 @@ returns c = let after-close-bytes = c .before in
     let f = start .pre .0 in
     let bs = now (a .bytes) in
     rw (after-close-words .close-words .ensures, after-close-bytes .close-bytes .ensures)
-    (oldest-left (now (a .memory)) (now (a .words)) bs (a .used) f (start .pre .1) (after-lay .lay .last .0) (getD (now (a .words)) 0 0) (getD bs 0 []) refl (any-default bs 0 [] (replicate 16 0) (omega (arith, f .bytes-long))) (after-lay .lay .ensures))
+    (oldest-left (now (a .memory)) (now (a .words)) bs (a .used) f (start .pre .1) (after-lay .lay .last .0) (getD (now (a .words)) 0 0)
+    (getD bs 0 []) refl (any-default bs 0 [] (replicate 16 0) (omega (arith, f .bytes-long))) (after-lay .lay .ensures))
 
 pub oldest-leaves-spec : {M : Type 1} → statement M
 oldest-leaves-spec =

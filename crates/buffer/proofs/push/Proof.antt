@@ -57,7 +57,8 @@ returns-2 c = let after-oldest-leaves = c .before .before .before .before .befor
     let a = start .args in
     let o = after-oldest-leaves .oldest-leaves in
     let n : length (o .last .0) ≡ length (now (a .memory)) = o .kept .0 in
-    pushed-full (now (a .memory)) (now (a .words)) (now (a .bytes)) (a .used) (start .pre .0 .used-low) (else1 .if1 .left) (o .last .0) (o .last .1 .0) (o .last .1 .1 .0) (o .ensures) (a .w) (a .b) (rw n (start .pre .1))
+    pushed-full (now (a .memory)) (now (a .words)) (now (a .bytes)) (a .used) (start .pre .0 .used-low) (else1 .if1 .left) (o .last .0)
+    (o .last .1 .0) (o .last .1 .1 .0) (o .ensures) (a .w) (a .b) (rw n (start .pre .1))
 
 pub push-spec : {M : Type 1} → statement M
 push-spec =

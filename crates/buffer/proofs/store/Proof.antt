@@ -26,8 +26,17 @@ join-requires c κs = let after-found = c .before .before .before in
     let start = after-newest .before .before .before .before .before .before .before in
     let a = start .args in
     let f = start .pre .0 in
-    let e = sym (after-newest .newest .ensures (now (a .bytes)) (f .bytes-long)) ∙ after-found .found .given .1 in
-    (f .words-long, omega (arith, newest-below (slotsOf (now (a .words)) (now (a .bytes))) (a .pa .0 / 16) (a .used) (after-found .found .given .0 .0) e, f .used-low), start .pre .1 .width-is, start .pre .1 .in-block)
+    let e = sym (after-newest .newest .ensures (now (a .bytes)) (f .bytes-long)) ∙ after-found .found .given .1 in (
+      f .words-long,
+      omega (
+        arith,
+        newest-below (slotsOf (now (a .words)) (now (a .bytes))) (a .pa .0 / 16) (a .used) (after-found .found .given .0 .0)
+            e,
+        f .used-low,
+      ),
+      start .pre .1 .width-is,
+      start .pre .1 .in-block,
+    )
 
 enum-told : tie.Need-enum-told
 enum-told c = search needs
@@ -54,8 +63,11 @@ push-requires c κs = let after-enum-told = c .before .before .before .before in
     let start = after-mask-of .before .before .before .before .before in
     let a = start .args in
     let f = start .pre .0 in
-    let e = sym (after-newest .newest .ensures (now (a .bytes)) (f .bytes-long)) ∙ after-enum-told .enum-told .given .1 in
-    (f, new-inside (now (a .memory)) (now (a .words)) (now (a .bytes)) (a .used) f (a .pa) (a .width) (a .value) (start .pre .1) e (after-mask-of .mask-of .result) (after-mask-of .mask-of .ensures .0) (after-mask-of .mask-of .ensures .1))
+    let e = sym (after-newest .newest .ensures (now (a .bytes)) (f .bytes-long)) ∙ after-enum-told .enum-told .given .1 in (
+      f,
+      new-inside (now (a .memory)) (now (a .words)) (now (a .bytes)) (a .used) f (a .pa) (a .width) (a .value) (start .pre .1) e
+          (after-mask-of .mask-of .result) (after-mask-of .mask-of .ensures .0) (after-mask-of .mask-of .ensures .1),
+    )
 
 same-length : tie.Need-same-length
 same-length c = search needs
@@ -70,7 +82,8 @@ returns c = let after-join = c .before .before in
     let f = start .pre .0 in
     let e = sym (after-newest .newest .ensures (now (a .bytes)) (f .bytes-long)) ∙ after-found .found .given .1 in
     rw (after-join .join .ensures .0, after-join .join .ensures .1)
-    (joined-left (now (a .memory)) (now (a .words)) (now (a .bytes)) (a .used) f (a .pa) (a .width) (a .value) (start .pre .1) (after-found .found .given .0 .0) e (after-mask-of .mask-of .result) (after-mask-of .mask-of .ensures .0) (after-mask-of .mask-of .ensures .1))
+    (joined-left (now (a .memory)) (now (a .words)) (now (a .bytes)) (a .used) f (a .pa) (a .width) (a .value) (start .pre .1)
+    (after-found .found .given .0 .0) e (after-mask-of .mask-of .result) (after-mask-of .mask-of .ensures .0) (after-mask-of .mask-of .ensures .1))
 
 same-length-2 : tie.Need-same-length-2
 same-length-2 c = search needs
@@ -88,7 +101,9 @@ returns-2 c = let after-push = c .before .before .before .before in
     let a = start .args in
     let f = start .pre .0 in
     let e = sym (after-newest .newest .ensures (now (a .bytes)) (f .bytes-long)) ∙ after-enum-told .enum-told .given .1 in
-    new-left (now (a .memory)) (now (a .words)) (now (a .bytes)) (a .used) f (a .pa) (a .width) (a .value) (start .pre .1) e (after-mask-of .mask-of .result) (after-mask-of .mask-of .ensures .0) (after-mask-of .mask-of .ensures .1) _ _ _ _ (after-with-store .with-store .result) (after-with-store .with-store .ensures) (after-push .push .ensures)
+    new-left (now (a .memory)) (now (a .words)) (now (a .bytes)) (a .used) f (a .pa) (a .width) (a .value) (start .pre .1) e
+    (after-mask-of .mask-of .result) (after-mask-of .mask-of .ensures .0) (after-mask-of .mask-of .ensures .1) _ _ _ _
+    (after-with-store .with-store .result) (after-with-store .with-store .ensures) (after-push .push .ensures)
 
 pub store-spec : {M : Type 1} → statement M
 store-spec =

@@ -17,8 +17,8 @@ mul-word c = search needs
 word-requires : tie.Need-word-requires
 word-requires c κs =
     let else1 = c .before in
-    let b2 = else1 .before in
-    let test = b2 in
+    let place = else1 .before in
+    let test = place in
     answers _ (test .before .before .args .at) (sym (test .aborts .ensures) ∙ else1 .if1 .left)
 
 returns : tie.Need-returns
@@ -27,8 +27,8 @@ returns c = let test = c .before in sym (descriptor-out _ (test .before .before 
 returns-2 : tie.Need-returns-2
 returns-2 c =
     let else1 = c .before .before in
-    let b3 = else1 .before in
-    let test = b3 in
+    let place = else1 .before in
+    let test = place in
     ap Word (c .word .ensures .value)
     ∙ sym (descriptor-in _ (test .before .before .args .at) (sym (test .aborts .ensures) ∙ else1 .if1 .left))
 

@@ -53,7 +53,9 @@ returns c = let after-cleaned-word = c .before in
     let after-line-of = after-send-halves .before .before .before .before in
     let start = after-line-of .before .before .before .before .before .before in
     let a = start .args in
-    λ ps. clean-left (now (a .memory)) (now (a .words)) (now (a .bytes)) (a .used) (now (a .lines)) ps (now (a .store)) (a .i) (after-line-of .line-of .result) (after-line-of .line-of .ensures) _ _ _ _ (after-send-halves .send-halves .ensures) (after-cleaned-word .cleaned-word .result) (c .dirty-halves .result) (after-cleaned-word .cleaned-word .ensures) (c .dirty-halves .ensures)
+    λ ps. clean-left (now (a .memory)) (now (a .words)) (now (a .bytes)) (a .used) (now (a .lines)) ps (now (a .store)) (a .i)
+    (after-line-of .line-of .result) (after-line-of .line-of .ensures) _ _ _ _ (after-send-halves .send-halves .ensures)
+    (after-cleaned-word .cleaned-word .result) (c .dirty-halves .result) (after-cleaned-word .cleaned-word .ensures) (c .dirty-halves .ensures)
 
 pub clean-line-spec : {M : Type 1} → statement M
 clean-line-spec =

@@ -102,7 +102,9 @@ returns c = let after-read-line = c .before .before .before in
     let ps = now (a .pointers) in
     let i = a .va .0 / 32 % 16 * 32 + getD ps (a .va .0 / 32 % 16) 0 in
     rw (after-read-line .read-line .ensures)
-    (fill-left (now (a .memory)) (now (a .words)) (now (a .bytes)) (a .used) (now (a .lines)) ps (now (a .store)) (a .va) (a .pa) i refl (after-line-of .line-of .result) (after-line-of .line-of .ensures) _ refl _ _ _ _ (after-give-way .give-way .ensures) (after-line-word .line-word .result) (c .dirty-halves .result) (after-line-word .line-word .ensures) (c .dirty-halves .ensures))
+    (fill-left (now (a .memory)) (now (a .words)) (now (a .bytes)) (a .used) (now (a .lines)) ps (now (a .store)) (a .va) (a .pa) i refl
+    (after-line-of .line-of .result) (after-line-of .line-of .ensures) _ refl _ _ _ _ (after-give-way .give-way .ensures)
+    (after-line-word .line-word .result) (c .dirty-halves .result) (after-line-word .line-word .ensures) (c .dirty-halves .ensures))
 
 pub fill-spec : {M : Type 1} → statement M
 fill-spec =

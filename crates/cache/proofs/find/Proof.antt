@@ -27,7 +27,7 @@ cast-base : tie.Need-cast-base Inv-loop μ-loop
 cast-base c = search needs
 
 next-tag-requires : tie.Need-next-tag-requires Inv-loop μ-loop
-next-tag-requires c κs = (c .before .before .before .pre .0, omega arith, omega arith)
+next-tag-requires c κs = let start = c .before .before .before in (start .pre .0, omega arith, omega arith)
 
 loop-holds : tie.Need-loop-holds Inv-loop μ-loop
 loop-holds c = let a = c .before .before .before .before .args in

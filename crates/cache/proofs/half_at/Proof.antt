@@ -38,8 +38,12 @@ loop-again c = let in-loop = c .before in
     let at-loop = in-loop .before in
     let start = at-loop .before in
     let a = start .args in
-    let l = at-loop .loop in
-    (omega arith, simp length-set (l .inv .1), half-step (now (a .store)) (a .at) (start .pre) _ (l .out) (l .i) (l .inv .2) (in-loop .loop-test .taken) (l .inv .1))
+    let l = at-loop .loop in (
+      omega arith,
+      simp length-set (l .inv .1),
+      half-step (now (a .store)) (a .at) (start .pre) _ (l .out) (l .i) (l .inv .2)
+          (in-loop .loop-test .taken) (l .inv .1),
+    )
 
 returns : tie.Need-returns Inv-loop μ-loop
 returns c = let at-loop = c .before in

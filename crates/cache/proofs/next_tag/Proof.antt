@@ -54,7 +54,9 @@ returns c = let l = c .before .loop in
     (l .inv .0, l .inv .1, (λ h. absurd (omega arith)), l .inv .2)
 
 returns-2 : tie.Need-returns-2 Inv-loop μ-loop
-returns-2 c = let l = c .before .before .before .loop in
+returns-2 c =
+    let at-loop = c .before .before .before in
+    let l = at-loop .loop in
     (l .inv .0, l .inv .1, (λ h. c .if2 .taken), l .inv .2)
 
 pub next-tag-spec : {M : Type 1} → statement M

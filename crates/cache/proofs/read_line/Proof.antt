@@ -40,8 +40,12 @@ loop-again : tie.Need-loop-again Inv-loop μ-loop
 loop-again c = let at-loop = c .before .before in
     let start = at-loop .before in
     let a = start .args in
-    let l = at-loop .loop in
-    (omega arith, simp length-set (l .inv .1), copy-step (now (a .store)) (a .at) (now (a .memory)) (a .from) (l .store) (l .i) (l .inv .2) (omega arith) (omega arith))
+    let l = at-loop .loop in (
+      omega arith,
+      simp length-set (l .inv .1),
+      copy-step (now (a .store)) (a .at) (now (a .memory)) (a .from) (l .store) (l .i) (l .inv .2)
+          (omega arith) (omega arith),
+    )
 
 same-length : tie.Need-same-length Inv-loop μ-loop
 same-length c = c .before .loop .inv .1

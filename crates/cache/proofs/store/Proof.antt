@@ -46,7 +46,12 @@ returns c = let after-store = c .before .before in
     let after-marked = after-store .before .before in
     let start = after-marked .before .before .before .before .before in
     let a = start .args in
-    λ ps. rw (after-store .store .ensures, map-set lineOf (now (a .lines)) (a .i) (after-marked .marked .result), after-marked .marked .ensures, line-at (now (a .lines)) (a .i))
+    λ ps. rw (
+      after-store .store .ensures,
+      map-set lineOf (now (a .lines)) (a .i) (after-marked .marked .result),
+      after-marked .marked .ensures,
+      line-at (now (a .lines)) (a .i),
+    )
 
 pub store-spec : {M : Type 1} → statement M
 store-spec =

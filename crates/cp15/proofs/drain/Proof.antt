@@ -19,12 +19,12 @@ same-length-2 c = search needs
 
 returns : tie.Need-returns
 returns c =
-    let b1 = c .before in let b2 = b1 .before in let b3 = b2 .before in let b4 = b3 .before in let b5 = b4 .before in let b6 = b5 .before in
-    let b7 = b6 .before in let b8 = b7 .before in let b9 = b8 .before in let b10 = b9 .before in let b11 = b10 .before in
-    let a = b11 .args in
+    let after-drain = c .before .before .before .before .before in let start = after-drain .before .before .before .before .before .before in
+    let a = start .args in
     λ ls ps st. record {
-      same = λ es n. rw (c .with-used .ensures) (drain-left es (a .s) n (lists (now (a .memory)) (now (a .words)) (now (a .bytes)) ls ps st) (b5 .drain .last .0) (b5 .drain .last .1 .0) (b5 .drain .result) (b5 .drain .ensures));
-      bytes-long = b5 .drain .ensures .fits .bytes-long;
+      same = λ es n. rw (c .with-used .ensures) (drain-left es (a .s) n (lists (now (a .memory)) (now (a .words)) (now (a .bytes)) ls ps st)
+          (after-drain .drain .last .0) (after-drain .drain .last .1 .0) (after-drain .drain .result) (after-drain .drain .ensures));
+      bytes-long = after-drain .drain .ensures .fits .bytes-long;
     }
 
 pub drain-spec : {M : Type 1} → statement M

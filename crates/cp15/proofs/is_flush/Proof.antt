@@ -11,16 +11,16 @@ is-pair-requires c κs = search needs
 
 returns : tie.Need-returns
 returns c =
-    let b1 = c .before in
-    sym (or-left _ _ (sym (b1 .is-pair .ensures) ∙ c .if1 .taken))
+    let after-is-pair = c .before in
+    sym (or-left _ _ (sym (after-is-pair .is-pair .ensures) ∙ c .if1 .taken))
 
 is-pair-requires-2 : tie.Need-is-pair-requires-2
 is-pair-requires-2 c κs = search needs
 
 returns-2 : tie.Need-returns-2
 returns-2 c =
-    let b1 = c .before in let b2 = b1 .before in let b3 = b2 .before in
-    let e : isPair (b3 .args .t) 0 7 ≡ false = sym (b2 .is-pair .ensures) ∙ b1 .if1 .left in rw e (c .is-pair2 .ensures)
+    let else1 = c .before in let after-is-pair = else1 .before in let start = after-is-pair .before in
+    let e : isPair (start .args .t) 0 7 ≡ false = sym (after-is-pair .is-pair .ensures) ∙ else1 .if1 .left in rw e (c .is-pair2 .ensures)
 
 pub is-flush-spec : {M : Type 1} → statement M
 is-flush-spec = tie.close (tie.spec is-pair-requires returns is-pair-requires-2 returns-2)

@@ -22,11 +22,12 @@ same-length c = search needs
 
 returns : tie.Need-returns
 returns c =
-    let b1 = c .before in let b2 = b1 .before in let b3 = b2 .before in let b4 = b3 .before in let b5 = b4 .before in let b6 = b5 .before in
-    let b7 = b6 .before in
-    let a = b7 .args in
-    let f : (isPair (a .t) 0 7 || isPair (a .t) 0 6) ≡ true = sym (b5 .is-flush .ensures) ∙ b4 .if1 .taken in
-    λ l s n. ap (λ (x : List Entry). withEntries (machineOf l (now (a .entries)) s n) x) (b2 .flush .ensures) ∙ sym (eight-flush (machineOf l (now (a .entries)) s n) (a .t) (a .va) (b7 .pre .0) f)
+    let after-flush = c .before .before in let then1 = after-flush .before .before in let after-is-flush = then1 .before in
+    let start = after-is-flush .before .before in
+    let a = start .args in
+    let f : (isPair (a .t) 0 7 || isPair (a .t) 0 6) ≡ true = sym (after-is-flush .is-flush .ensures) ∙ then1 .if1 .taken in
+    λ l s n. ap (λ (x : List Entry). withEntries (machineOf l (now (a .entries)) s n) x) (after-flush .flush .ensures)
+    ∙ sym (eight-flush (machineOf l (now (a .entries)) s n) (a .t) (a .va) (start .pre .0) f)
 
 is-pair-requires : tie.Need-is-pair-requires
 is-pair-requires c κs = search needs
@@ -39,20 +40,22 @@ same-length-2 c = search needs
 
 returns-2 : tie.Need-returns-2
 returns-2 c =
-    let b1 = c .before in let b2 = b1 .before in let b3 = b2 .before in let b4 = b3 .before in let b5 = b4 .before in let b6 = b5 .before in
-    let b7 = b6 .before in let b8 = b7 .before in let b9 = b8 .before in
-    let a = b9 .args in
-    let f : (isPair (a .t) 0 7 || isPair (a .t) 0 6) ≡ false = sym (b7 .is-flush .ensures) ∙ b6 .if1 .left in
-    let g : isPair (a .t) 1 6 ≡ true = sym (b5 .is-pair .ensures) ∙ b4 .if2 .taken in
-    λ l s n. ap (λ (x : List Entry). withEntries (machineOf l (now (a .entries)) s n) x) (b2 .drop-covering .ensures) ∙ sym (eight-drop (machineOf l (now (a .entries)) s n) (a .t) (a .va) (b9 .pre .0) f g)
+    let after-drop-covering = c .before .before in let then2 = after-drop-covering .before .before in let after-is-pair = then2 .before in
+    let else1 = after-is-pair .before in let after-is-flush = else1 .before in let start = after-is-flush .before .before in
+    let a = start .args in
+    let f : (isPair (a .t) 0 7 || isPair (a .t) 0 6) ≡ false = sym (after-is-flush .is-flush .ensures) ∙ else1 .if1 .left in
+    let g : isPair (a .t) 1 6 ≡ true = sym (after-is-pair .is-pair .ensures) ∙ then2 .if2 .taken in
+    λ l s n. ap (λ (x : List Entry). withEntries (machineOf l (now (a .entries)) s n) x) (after-drop-covering .drop-covering .ensures)
+    ∙ sym (eight-drop (machineOf l (now (a .entries)) s n) (a .t) (a .va) (start .pre .0) f g)
 
 returns-3 : tie.Need-returns-3
 returns-3 c =
-    let b1 = c .before in let b2 = b1 .before in let b3 = b2 .before in let b4 = b3 .before in let b5 = b4 .before in
-    let a = b5 .args in
-    let f : (isPair (a .t) 0 7 || isPair (a .t) 0 6) ≡ false = sym (b3 .is-flush .ensures) ∙ b2 .if1 .left in
-    let g : isPair (a .t) 1 6 ≡ false = sym (b1 .is-pair .ensures) ∙ c .if2 .left in
-    λ l s n. sym (eight-nothing (machineOf l (now (a .entries)) s n) (a .t) (a .va) (b5 .pre .0) f g)
+    let after-is-pair = c .before in let else1 = after-is-pair .before in let after-is-flush = else1 .before in
+    let start = after-is-flush .before .before in
+    let a = start .args in
+    let f : (isPair (a .t) 0 7 || isPair (a .t) 0 6) ≡ false = sym (after-is-flush .is-flush .ensures) ∙ else1 .if1 .left in
+    let g : isPair (a .t) 1 6 ≡ false = sym (after-is-pair .is-pair .ensures) ∙ c .if2 .left in
+    λ l s n. sym (eight-nothing (machineOf l (now (a .entries)) s n) (a .t) (a .va) (start .pre .0) f g)
 
 pub operate-eight-spec : {M : Type 1} → statement M
 operate-eight-spec =

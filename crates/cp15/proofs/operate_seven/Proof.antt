@@ -24,13 +24,17 @@ same-length c = search needs
 returns : tie.Need-returns
 unfolding allFlushed
 returns c =
-    let b1 = c .before in let b2 = b1 .before in let b3 = b2 .before in let b4 = b3 .before in let b5 = b4 .before in let b6 = b5 .before in
-    let b7 = b6 .before in let b8 = b7 .before in let b9 = b8 .before in let b10 = b9 .before in
-    let a = b10 .args in
-    let f : (isPair (a .t) 0 7 || isPair (a .t) 0 6) ≡ true = sym (b5 .is-flush .ensures) ∙ b4 .if1 .taken in
+    let after-flush = c .before .before in let then1 = after-flush .before .before in let after-is-flush = then1 .before in
+    let start = after-is-flush .before .before .before .before .before in
+    let a = start .args in
+    let f : (isPair (a .t) 0 7 || isPair (a .t) 0 6) ≡ true = sym (after-is-flush .is-flush .ensures) ∙ then1 .if1 .taken in
     λ ps. record {
-      same = λ es n. ap (λ (x : List Line). withCache (machineOf (lists (now (a .memory)) (now (a .words)) (now (a .bytes)) (now (a .lines)) ps (now (a .store))) es (a .s) n) (dcacheFrom x ps (now (a .store)))) (b2 .flush .ensures) ∙ sym (seven-flush (machineOf (lists (now (a .memory)) (now (a .words)) (now (a .bytes)) (now (a .lines)) ps (now (a .store))) es (a .s) n) (a .t) (a .va) (b10 .pre .0) f);
-      bytes-long = b10 .pre .2 .fits .bytes-long;
+      same = λ es n. ap (λ (x : List Line). withCache (machineOf
+          (lists (now (a .memory)) (now (a .words)) (now (a .bytes)) (now (a .lines)) ps (now (a .store))) es (a .s) n)
+          (dcacheFrom x ps (now (a .store)))) (after-flush .flush .ensures)
+          ∙ sym (seven-flush (machineOf (lists (now (a .memory)) (now (a .words)) (now (a .bytes)) (now (a .lines)) ps (now (a .store))) es (a .s) n)
+          (a .t) (a .va) (start .pre .0) f);
+      bytes-long = start .pre .2 .fits .bytes-long;
     }
 
 is-pair-requires : tie.Need-is-pair-requires
@@ -44,15 +48,18 @@ same-length-2 c = search needs
 
 returns-2 : tie.Need-returns-2
 returns-2 c =
-    let b1 = c .before in let b2 = b1 .before in let b3 = b2 .before in let b4 = b3 .before in let b5 = b4 .before in let b6 = b5 .before in
-    let b7 = b6 .before in let b8 = b7 .before in let b9 = b8 .before in let b10 = b9 .before in let b11 = b10 .before in
-    let b12 = b11 .before in
-    let a = b12 .args in
-    let f : (isPair (a .t) 0 7 || isPair (a .t) 0 6) ≡ false = sym (b7 .is-flush .ensures) ∙ b6 .if1 .left in
-    let g : isPair (a .t) 1 6 ≡ true = sym (b5 .is-pair .ensures) ∙ b4 .if2 .taken in
+    let after-flush-line = c .before .before in let then2 = after-flush-line .before .before in let after-is-pair = then2 .before in
+    let else1 = after-is-pair .before in let after-is-flush = else1 .before in let start = after-is-flush .before .before .before .before .before in
+    let a = start .args in
+    let f : (isPair (a .t) 0 7 || isPair (a .t) 0 6) ≡ false = sym (after-is-flush .is-flush .ensures) ∙ else1 .if1 .left in
+    let g : isPair (a .t) 1 6 ≡ true = sym (after-is-pair .is-pair .ensures) ∙ then2 .if2 .taken in
     λ ps. record {
-      same = λ es n. ap (λ (x : Dcache). withCache (machineOf (lists (now (a .memory)) (now (a .words)) (now (a .bytes)) (now (a .lines)) ps (now (a .store))) es (a .s) n) x) (b2 .flush-line .ensures ps (now (a .store))) ∙ sym (seven-line (machineOf (lists (now (a .memory)) (now (a .words)) (now (a .bytes)) (now (a .lines)) ps (now (a .store))) es (a .s) n) (a .t) (a .va) (b12 .pre .0) f g);
-      bytes-long = b12 .pre .2 .fits .bytes-long;
+      same = λ es n. ap (λ (x : Dcache). withCache (machineOf
+          (lists (now (a .memory)) (now (a .words)) (now (a .bytes)) (now (a .lines)) ps (now (a .store))) es (a .s) n) x)
+          (after-flush-line .flush-line .ensures ps (now (a .store))) ∙ sym
+          (seven-line (machineOf (lists (now (a .memory)) (now (a .words)) (now (a .bytes)) (now (a .lines)) ps (now (a .store))) es (a .s) n) (a .t)
+          (a .va) (start .pre .0) f g);
+      bytes-long = start .pre .2 .fits .bytes-long;
     }
 
 is-pair-requires-2 : tie.Need-is-pair-requires-2
@@ -72,17 +79,18 @@ same-length-5 c = search needs
 
 returns-3 : tie.Need-returns-3
 returns-3 c =
-    let b1 = c .before in let b2 = b1 .before in let b3 = b2 .before in let b4 = b3 .before in let b5 = b4 .before in let b6 = b5 .before in
-    let b7 = b6 .before in let b8 = b7 .before in let b9 = b8 .before in let b10 = b9 .before in let b11 = b10 .before in
-    let b12 = b11 .before in let b13 = b12 .before in let b14 = b13 .before in let b15 = b14 .before in let b16 = b15 .before in
-    let b17 = b16 .before in let b18 = b17 .before in let b19 = b18 .before in let b20 = b19 .before in let b21 = b20 .before in
-    let a = b21 .args in
-    let f : (isPair (a .t) 0 7 || isPair (a .t) 0 6) ≡ false = sym (b16 .is-flush .ensures) ∙ b15 .if1 .left in
-    let g : isPair (a .t) 1 6 ≡ false = sym (b14 .is-pair .ensures) ∙ b13 .if2 .left in
-    let h : isPair (a .t) 1 10 ≡ true = sym (b12 .is-pair2 .ensures) ∙ b11 .if3 .taken in
+    let after-clean = c .before .before .before .before .before .before in let then3 = after-clean .before .before .before .before .before in
+    let after-is-pair2 = then3 .before in let else2 = after-is-pair2 .before in let after-is-pair = else2 .before in
+    let else1 = after-is-pair .before in let after-is-flush = else1 .before in let start = after-is-flush .before .before .before .before .before in
+    let a = start .args in
+    let f : (isPair (a .t) 0 7 || isPair (a .t) 0 6) ≡ false = sym (after-is-flush .is-flush .ensures) ∙ else1 .if1 .left in
+    let g : isPair (a .t) 1 6 ≡ false = sym (after-is-pair .is-pair .ensures) ∙ else2 .if2 .left in
+    let h : isPair (a .t) 1 10 ≡ true = sym (after-is-pair2 .is-pair2 .ensures) ∙ then3 .if3 .taken in
     λ ps. record {
-      same = λ es n. b6 .clean .ensures ps .same es n ∙ sym (seven-clean (machineOf (lists (now (a .memory)) (now (a .words)) (now (a .bytes)) (now (a .lines)) ps (now (a .store))) es (a .s) n) (a .t) (a .va) (b21 .pre .0) f g h);
-      bytes-long = b6 .clean .ensures ps .bytes-long;
+      same = λ es n. after-clean .clean .ensures ps .same es n ∙ sym
+          (seven-clean (machineOf (lists (now (a .memory)) (now (a .words)) (now (a .bytes)) (now (a .lines)) ps (now (a .store))) es (a .s) n) (a .t)
+          (a .va) (start .pre .0) f g h);
+      bytes-long = after-clean .clean .ensures ps .bytes-long;
     }
 
 is-pair-requires-3 : tie.Need-is-pair-requires-3
@@ -99,33 +107,36 @@ same-length-7 c = search needs
 
 returns-4 : tie.Need-returns-4
 returns-4 c =
-    let b1 = c .before in let b2 = b1 .before in let b3 = b2 .before in let b4 = b3 .before in let b5 = b4 .before in let b6 = b5 .before in
-    let b7 = b6 .before in let b8 = b7 .before in let b9 = b8 .before in let b10 = b9 .before in let b11 = b10 .before in
-    let b12 = b11 .before in let b13 = b12 .before in let b14 = b13 .before in let b15 = b14 .before in let b16 = b15 .before in
-    let b17 = b16 .before in let b18 = b17 .before in let b19 = b18 .before in let b20 = b19 .before in
-    let a = b20 .args in
-    let f : (isPair (a .t) 0 7 || isPair (a .t) 0 6) ≡ false = sym (b15 .is-flush .ensures) ∙ b14 .if1 .left in
-    let g : isPair (a .t) 1 6 ≡ false = sym (b13 .is-pair .ensures) ∙ b12 .if2 .left in
-    let h : isPair (a .t) 1 10 ≡ false = sym (b11 .is-pair2 .ensures) ∙ b10 .if3 .left in
-    let i : isPair (a .t) 4 10 ≡ true = sym (b9 .is-pair3 .ensures) ∙ b8 .if4 .taken in
+    let after-drain = c .before .before .before .before in let then4 = after-drain .before .before .before .before in
+    let after-is-pair3 = then4 .before in let else3 = after-is-pair3 .before in let after-is-pair2 = else3 .before in
+    let else2 = after-is-pair2 .before in let after-is-pair = else2 .before in let else1 = after-is-pair .before in
+    let after-is-flush = else1 .before in let start = after-is-flush .before .before .before .before .before in
+    let a = start .args in
+    let f : (isPair (a .t) 0 7 || isPair (a .t) 0 6) ≡ false = sym (after-is-flush .is-flush .ensures) ∙ else1 .if1 .left in
+    let g : isPair (a .t) 1 6 ≡ false = sym (after-is-pair .is-pair .ensures) ∙ else2 .if2 .left in
+    let h : isPair (a .t) 1 10 ≡ false = sym (after-is-pair2 .is-pair2 .ensures) ∙ else3 .if3 .left in
+    let i : isPair (a .t) 4 10 ≡ true = sym (after-is-pair3 .is-pair3 .ensures) ∙ then4 .if4 .taken in
     λ ps. record {
-      same = λ es n. b4 .drain .ensures (now (a .lines)) ps (now (a .store)) .same es n ∙ sym (seven-drain (machineOf (lists (now (a .memory)) (now (a .words)) (now (a .bytes)) (now (a .lines)) ps (now (a .store))) es (a .s) n) (a .t) (a .va) (b20 .pre .0) f g h i);
-      bytes-long = b4 .drain .ensures (now (a .lines)) ps (now (a .store)) .bytes-long;
+      same = λ es n. after-drain .drain .ensures (now (a .lines)) ps (now (a .store)) .same es n
+          ∙ sym (seven-drain (machineOf (lists (now (a .memory)) (now (a .words)) (now (a .bytes)) (now (a .lines)) ps (now (a .store))) es (a .s) n)
+          (a .t) (a .va) (start .pre .0) f g h i);
+      bytes-long = after-drain .drain .ensures (now (a .lines)) ps (now (a .store)) .bytes-long;
     }
 
 returns-5 : tie.Need-returns-5
 returns-5 c =
-    let b1 = c .before in let b2 = b1 .before in let b3 = b2 .before in let b4 = b3 .before in let b5 = b4 .before in let b6 = b5 .before in
-    let b7 = b6 .before in let b8 = b7 .before in let b9 = b8 .before in let b10 = b9 .before in let b11 = b10 .before in
-    let b12 = b11 .before in
-    let a = b12 .args in
-    let f : (isPair (a .t) 0 7 || isPair (a .t) 0 6) ≡ false = sym (b7 .is-flush .ensures) ∙ b6 .if1 .left in
-    let g : isPair (a .t) 1 6 ≡ false = sym (b5 .is-pair .ensures) ∙ b4 .if2 .left in
-    let h : isPair (a .t) 1 10 ≡ false = sym (b3 .is-pair2 .ensures) ∙ b2 .if3 .left in
-    let i : isPair (a .t) 4 10 ≡ false = sym (b1 .is-pair3 .ensures) ∙ c .if4 .left in
+    let after-is-pair3 = c .before in let else3 = after-is-pair3 .before in let after-is-pair2 = else3 .before in
+    let else2 = after-is-pair2 .before in let after-is-pair = else2 .before in let else1 = after-is-pair .before in
+    let after-is-flush = else1 .before in let start = after-is-flush .before .before .before .before .before in
+    let a = start .args in
+    let f : (isPair (a .t) 0 7 || isPair (a .t) 0 6) ≡ false = sym (after-is-flush .is-flush .ensures) ∙ else1 .if1 .left in
+    let g : isPair (a .t) 1 6 ≡ false = sym (after-is-pair .is-pair .ensures) ∙ else2 .if2 .left in
+    let h : isPair (a .t) 1 10 ≡ false = sym (after-is-pair2 .is-pair2 .ensures) ∙ else3 .if3 .left in
+    let i : isPair (a .t) 4 10 ≡ false = sym (after-is-pair3 .is-pair3 .ensures) ∙ c .if4 .left in
     λ ps. record {
-      same = λ es n. sym (seven-nothing (machineOf (lists (now (a .memory)) (now (a .words)) (now (a .bytes)) (now (a .lines)) ps (now (a .store))) es (a .s) n) (a .t) (a .va) (b12 .pre .0) f g h i);
-      bytes-long = b12 .pre .2 .fits .bytes-long;
+      same = λ es n. sym (seven-nothing (machineOf (lists (now (a .memory)) (now (a .words)) (now (a .bytes)) (now (a .lines)) ps (now (a .store))) es
+          (a .s) n) (a .t) (a .va) (start .pre .0) f g h i);
+      bytes-long = start .pre .2 .fits .bytes-long;
     }
 
 pub operate-seven-spec : {M : Type 1} → statement M

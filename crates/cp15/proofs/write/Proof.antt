@@ -28,14 +28,17 @@ same-length-4 c = search needs
 
 returns : tie.Need-returns
 returns c =
-    let b1 = c .before in let b2 = b1 .before in let b3 = b2 .before in let b4 = b3 .before in let b5 = b4 .before in let b6 = b5 .before in
-    let b7 = b6 .before in let b8 = b7 .before in let b9 = b8 .before in let b10 = b9 .before in let b11 = b10 .before in
-    let b12 = b11 .before in let b13 = b12 .before in let b14 = b13 .before in let b15 = b14 .before in let b16 = b15 .before in
-    let b17 = b16 .before in let b18 = b17 .before in let b19 = b18 .before in let b20 = b19 .before in let b21 = b20 .before in
-    let b22 = b21 .before in
-    let a = b22 .args in
-    let o = b9 .operate .last in
-    ((λ ps n. write-left (now (a .entries)) (o .1 .1 .1 .1 .1 .0) (a .s) (b9 .operate .result) n (lists (now (a .memory)) (now (a .words)) (now (a .bytes)) (now (a .lines)) ps (now (a .store))) (lists (o .0) (o .1 .0) (o .1 .1 .0) (o .1 .1 .1 .0) ps (now (a .store))) (a .t) (a .v) _ _ (b9 .operate .ensures .0 ps n) (b15 .written .ensures) (c .with-registers .ensures)), b9 .operate .ensures .1)
+    let after-operate = c .before .before .before .before .before .before .before .before .before in
+    let after-written = after-operate .before .before .before .before .before .before in
+    let start = after-written .before .before .before .before .before .before .before in
+    let a = start .args in
+    let o = after-operate .operate .last in (
+      (λ ps n. write-left (now (a .entries)) (o .1 .1 .1 .1 .1 .0) (a .s) (after-operate .operate .result) n
+          (lists (now (a .memory)) (now (a .words)) (now (a .bytes)) (now (a .lines)) ps (now (a .store)))
+          (lists (o .0) (o .1 .0) (o .1 .1 .0) (o .1 .1 .1 .0) ps (now (a .store))) (a .t) (a .v) _ _ (after-operate .operate .ensures .0 ps n)
+          (after-written .written .ensures) (c .with-registers .ensures)),
+      after-operate .operate .ensures .1,
+    )
 
 pub write-spec : {M : Type 1} → statement M
 write-spec =

@@ -17,8 +17,58 @@ use ghost.Atoms.{Atoms}
 use contract.Monad.{Fun, fact}
 use contract.Lifetimes.{AllOutlive}
 use contract.Running.{givenOf, tables, tablesOf}
-use types.Kit.{Given, Item, ‵, raw, _⊛_, ⋆, some, later, _$_, _∵_, !, qed, by, move, keep, drop, use1, use2, split, join, pick, fjoin, suffices, frame, await, done}
-use types.Run.{look, look-raw, init, forget, stop, hop, from, load, and-then, no-more, land, of-opd, assigns, returns, enter, alloc1, alloc0, params1, pass1, pass0, free1, free0}
+use types.Kit.{
+  Given,
+  Item,
+  ‵,
+  raw,
+  _⊛_,
+  ⋆,
+  some,
+  later,
+  _$_,
+  _∵_,
+  !,
+  qed,
+  by,
+  move,
+  keep,
+  drop,
+  use1,
+  use2,
+  split,
+  join,
+  pick,
+  fjoin,
+  suffices,
+  frame,
+  await,
+  done,
+}
+use types.Run.{
+  look,
+  look-raw,
+  init,
+  forget,
+  stop,
+  hop,
+  from,
+  load,
+  and-then,
+  no-more,
+  land,
+  of-opd,
+  assigns,
+  returns,
+  enter,
+  alloc1,
+  alloc0,
+  params1,
+  pass1,
+  pass0,
+  free1,
+  free0,
+}
 use sound.WpLaws.{FmC, fmOf, WpFn-mono}
 use denote.RattleType.{owns}
 use denote.Laws.{Is, shows}
@@ -72,7 +122,13 @@ number = plain (λ _. u32)
 
 -- at the exit: nothing is had of the parameters
 abbrev stayed : Stays (f.ended .signature .params) (f.ended .kept)
-stayed = (stay-dropped state-slot yes, (stay-dropped cp15-slot yes, (stay-dropped memory-slot yes, (stay-dropped store-slot yes, (stay-dropped number yes, tt)))))
+stayed = (
+  stay-dropped state-slot yes,
+  (
+    stay-dropped cp15-slot yes,
+    (stay-dropped memory-slot yes, (stay-dropped store-slot yes, (stay-dropped number yes, tt))),
+  ),
+)
 
 module _ {M : Type 1} (𝓤 : URA M) (H : Heap 𝓤) (A : Atoms 𝓤) (at-mem : Memory → SProp 𝓤) (run : Routine → Fun 𝓤) where
   -- the contract that the proof cites
@@ -107,12 +163,27 @@ module _ {M : Type 1} (𝓤 : URA M) (H : Heap 𝓤) (A : Atoms 𝓤) (W : Given
   args = (state .now, (cp15 .now, (memory, (store, (va, tt)))))
 
   abbrev to : Value 𝓤 H A at-mem run .Ghost
-  to = (((κ₂, (κ₃, tt)), (q₂, (q₃, tt)), tt, args, (LL.vals S.the-type S′.the-laws (state .now), (LL.vals T.the-type T′.the-laws (cp15 .now), (memory-val ∷ [], (store-val ∷ [], (vint w32 va ∷ [], tt)))))), tt)
+  to = (
+    (
+      (κ₂, (κ₃, tt)),
+      (q₂, (q₃, tt)),
+      tt,
+      args,
+      (
+        LL.vals S.the-type S′.the-laws (state .now),
+        (LL.vals T.the-type T′.the-laws (cp15 .now), (memory-val ∷ [], (store-val ∷ [], (vint w32 va ∷ [], tt)))),
+      ),
+    ),
+    tt,
+  )
 
   goes : Is S.the-row (state .now) (LL.vals S.the-type S′.the-laws (state .now)) → Is T.the-row (cp15 .now) (LL.vals T.the-type T′.the-laws (cp15 .now))
-      → ent 𝓤 (⋆ 𝓤 H A ((‵ (flft κ₂ q₂) ⊛ ‵ (flft κ₃ q₃) ⊛ ‵ ftrue) ∷ ‵ (owns (ShrSlice (named 2) κ₂ u8 ∷ ShrSlice (named 3) κ₃ u8 ∷ u32 ∷ []) (x .1 .1) (at .1 .1)) ∷ [])) (Value 𝓤 H A at-mem run .pre to)
+      → ent 𝓤 (⋆ 𝓤 H A ((‵ (flft κ₂ q₂) ⊛ ‵ (flft κ₃ q₃) ⊛ ‵ ftrue) ∷ ‵
+      (owns (ShrSlice (named 2) κ₂ u8 ∷ ShrSlice (named 3) κ₃ u8 ∷ u32 ∷ []) (x .1 .1) (at .1 .1)) ∷ [])) (Value 𝓤 H A at-mem run .pre to)
   goes s-is c-is =
-      qed W ((‵ (flft κ₂ q₂) ⊛ ‵ (flft κ₃ q₃) ⊛ ‵ ftrue) ∷ ‵ (owns (ShrSlice (named 2) κ₂ u8 ∷ ShrSlice (named 3) κ₃ u8 ∷ u32 ∷ []) (x .1 .1) (at .1 .1)) ∷ []) ∵ move ! (1 ∷ []) $ owned ! T.the-row (Is T.the-row) (LL.makes T.the-type T′.the-plain 𝓤 H A) (cp15 .now) _ c-is $ fjoin ! $
+      qed W ((‵ (flft κ₂ q₂) ⊛ ‵ (flft κ₃ q₃) ⊛ ‵ ftrue) ∷ ‵
+      (owns (ShrSlice (named 2) κ₂ u8 ∷ ShrSlice (named 3) κ₃ u8 ∷ u32 ∷ []) (x .1 .1) (at .1 .1)) ∷ []) ∵ move ! (1 ∷ []) $
+      owned ! T.the-row (Is T.the-row) (LL.makes T.the-type T′.the-plain 𝓤 H A) (cp15 .now) _ c-is $ fjoin ! $
       owned ! S.the-row (Is S.the-row) (LL.makes S.the-type S′.the-plain 𝓤 H A) (state .now) _ s-is $ fjoin ! $ move ! (1 ∷ 0 ∷ []) $ join ! $ frame ! $ done !
 
   abbrev left : ℕ → Val → List (Item 𝓤)
@@ -121,15 +192,22 @@ module _ {M : Type 1} (𝓤 : URA M) (H : Heap 𝓤) (A : Atoms 𝓤) (W : Given
   exits : (r : ℕ) (v : Val) → Says r → ent 𝓤 (⋆ 𝓤 H A (left r v)) (Post v)
   exits r v e =
       qed W (left r v) ∵
-      suffices ! _ (ends-at 𝓤 H A f.ended stayed (f.clauses 𝓤 H A at-mem run) W (((κ₀, (κ₁, (κ₂, (κ₃, tt)))), (q₀, (q₁, (q₂, (q₃, tt)))), bounds, x, at), tt) v r (tt, (tt, (tt, (tt, (tt, tt))))) (tt, (tt, (tt, (tt, (tt, tt)))))) $ says ! e $
+      suffices ! _ (ends-at 𝓤 H A f.ended stayed (f.clauses 𝓤 H A at-mem run) W
+      (((κ₀, (κ₁, (κ₂, (κ₃, tt)))), (q₀, (q₁, (q₂, (q₃, tt)))), bounds, x, at), tt) v r (tt, (tt, (tt, (tt, (tt, tt))))) (
+        tt,
+        (tt, (tt, (tt, (tt, tt)))),
+      )) $ says ! e $
       move ! (1 ∷ 2 ∷ []) $ join ! $ move ! (1 ∷ 0 ∷ []) $ join ! $ frame ! $
       nothing ! $ nothing ! $ fjoin ! $ nothing ! $ fjoin ! $ nothing ! $ fjoin ! $ nothing ! $ fjoin ! $ nothing ! $ fjoin ! $ frame ! $ done !
 
   module _ (C : Calls 𝓤 H) (Λ : Loops 𝓤 H) (fm : FmC 𝓤 H (W .laws) C) (known : Triple 𝓤 (C #inspect·look-code) (Value 𝓤 H A at-mem run)) where
     walk : Is (ShrSlice (named 2) κ₂ u8) memory (memory-val ∷ []) → Is (ShrSlice (named 3) κ₃ u8) store (store-val ∷ []) → va < 2 ^ 32 →
-        ent 𝓤 (onEntry 𝓤 H A f.signature (κ₀, (κ₁, (κ₂, (κ₃, tt)))) (q₀, (q₁, (q₂, (q₃, tt)))) x at) (WpFn 𝓤 H C Λ code.function (vptr (state .ptr .0) (state .ptr .1) ∷ vptr (cp15 .ptr .0) (cp15 .ptr .1) ∷ memory-val ∷ store-val ∷ vint w32 va ∷ []) Post)
+        ent 𝓤 (onEntry 𝓤 H A f.signature (κ₀, (κ₁, (κ₂, (κ₃, tt)))) (q₀, (q₁, (q₂, (q₃, tt)))) x at)
+        (WpFn 𝓤 H C Λ code.function (vptr (state .ptr .0) (state .ptr .1) ∷ vptr (cp15 .ptr .0) (cp15 .ptr .1) ∷ memory-val ∷ store-val ∷ vint w32 va
+        ∷ []) Post)
     walk memory-is store-is va-is =
-        qed W ((‵ (flft κ₀ q₀) ⊛ ‵ (flft κ₁ q₁) ⊛ ‵ (flft κ₂ q₂) ⊛ ‵ (flft κ₃ q₃) ⊛ ‵ ftrue) ∷ ‵ (owns (ShrRef (named 0) κ₀ S.the-row ∷ ShrRef (named 1) κ₁ T.the-row ∷ ShrSlice (named 2) κ₂ u8 ∷ ShrSlice (named 3) κ₃ u8 ∷ u32 ∷ []) x at) ∷ []) ∵
+        qed W ((‵ (flft κ₀ q₀) ⊛ ‵ (flft κ₁ q₁) ⊛ ‵ (flft κ₂ q₂) ⊛ ‵ (flft κ₃ q₃) ⊛ ‵ ftrue)
+        ∷ ‵ (owns (ShrRef (named 0) κ₀ S.the-row ∷ ShrRef (named 1) κ₁ T.the-row ∷ ShrSlice (named 2) κ₂ u8 ∷ ShrSlice (named 3) κ₃ u8 ∷ u32 ∷ []) x at) ∷ []) ∵
         enter ! C Λ code.function (vptr (state .ptr .0) (state .ptr .1) ∷ vptr (cp15 .ptr .0) (cp15 .ptr .1) ∷ memory-val ∷ store-val ∷ vint w32 va ∷ []) _ $
         alloc1 ! (λ l₀. alloc1 ! (λ l₁. alloc1 ! (λ l₂. alloc1 ! (λ l₃. alloc1 ! (λ l₄. alloc1 ! (λ l₅. alloc1 ! (λ l₆. alloc1 ! (λ l₇. alloc0 ! $ params1 ! $
         pass1 ! (init ! 12 refl (tt, tt)) $ pass1 ! (init ! 10 refl (tt, tt)) $
@@ -139,27 +217,36 @@ module _ {M : Type 1} (𝓤 : URA M) (H : Heap 𝓤) (A : Atoms 𝓤) (W : Given
         -- [room for _7; …; to room for _0; …; the tokens; what the parameters own]
         move ! (16 ∷ 17 ∷ []) $ look-lent ! tt (named 0) S.the-type S′.the-laws S′.the-copy state (λ q′ s-is.
         -- [a share of the state's cell; own; the open borrow; the other tokens; what the others own; room for _7; …; to room for _0; …]
-        assigns ! (of-opd ! (load ! (from ! (hop ! (look ! 17 refl) (stop !))) (look-raw ! 0 refl))) (from ! (stop !)) (init ! 7 refl (LL.lawful S.the-type S′.the-laws 𝓤 H A W .typed (state .now) _ s-is .0)) $
+        assigns ! (of-opd ! (load ! (from ! (hop ! (look ! 17 refl) (stop !))) (look-raw ! 0 refl))) (from ! (stop !))
+        (init ! 7 refl (LL.lawful S.the-type S′.the-laws 𝓤 H A W .typed (state .now) _ s-is .0)) $
         shuts ! tt S.the-row q′ (state .now) (LL.vals S.the-type S′.the-laws (state .now)) (state .ptr .0) (state .ptr .1) $
         -- [the state's token; the other tokens; what the others own; room for _7; …; to room for _0; …]
         move ! (1 ∷ 2 ∷ []) $ look-lent ! tt (named 1) T.the-type T′.the-laws T′.the-copy cp15 (λ q″ c-is.
         -- [a share of the record's cell; own; the open borrow; the other tokens; what the others own; the state's token; room for _7; …; to room for _0; …]
-        assigns ! (of-opd ! (load ! (from ! (hop ! (look ! 16 refl) (stop !))) (look-raw ! 0 refl))) (from ! (stop !)) (init ! 6 refl (LL.lawful T.the-type T′.the-laws 𝓤 H A W .typed (cp15 .now) _ c-is .0)) $
+        assigns ! (of-opd ! (load ! (from ! (hop ! (look ! 16 refl) (stop !))) (look-raw ! 0 refl))) (from ! (stop !))
+        (init ! 6 refl (LL.lawful T.the-type T′.the-laws 𝓤 H A W .typed (cp15 .now) _ c-is .0)) $
         shuts ! tt T.the-row q″ (cp15 .now) (LL.vals T.the-type T′.the-laws (cp15 .now)) (cp15 .ptr .0) (cp15 .ptr .1) $
         -- [the record's token; the other tokens; what the others own; the state's token; _7; …; to room for _0; …]
         move ! (1 ∷ 2 ∷ []) $ use2 W (raw (Value 𝓤 H A at-mem run .pre to)) (goes s-is c-is) $
         calls-at ! fm (Value 𝓤 H A at-mem run) known to
-        (and-then ! (load ! (from ! (stop !)) (look ! 5 refl)) (and-then ! (load ! (from ! (stop !)) (look ! 3 refl)) (and-then ! (load ! (from ! (stop !)) (look ! 11 refl)) (and-then ! (load ! (from ! (stop !)) (look ! 9 refl)) (and-then ! (load ! (from ! (stop !)) (look ! 7 refl)) (no-more !)))))) (λ v.
-        use1 W (later (some (λ (r : ℕ). ((‵ (flft κ₂ q₂) ⊛ ‵ (flft κ₃ q₃) ⊛ ‵ ftrue) ⊛ ‵ (u64 .own r (v ∷ []))) ⊛ raw (ensured 𝓤 H A g.ended (g.clauses 𝓤 H A at-mem run) (κ₂, (κ₃, tt)) args tt r)))) (id⊢ 𝓤 _) $ await ! tt $ pick ! (λ r.
+        (and-then ! (load ! (from ! (stop !)) (look ! 5 refl)) (and-then ! (load ! (from ! (stop !)) (look ! 3 refl))
+        (and-then ! (load ! (from ! (stop !)) (look ! 11 refl)) (and-then ! (load ! (from ! (stop !)) (look ! 9 refl))
+        (and-then ! (load ! (from ! (stop !)) (look ! 7 refl)) (no-more !)))))) (λ v.
+        use1 W (later (some (λ (r : ℕ). ((‵ (flft κ₂ q₂) ⊛ ‵ (flft κ₃ q₃) ⊛ ‵ ftrue) ⊛ ‵ (u64 .own r (v ∷ [])))
+        ⊛ raw (ensured 𝓤 H A g.ended (g.clauses 𝓤 H A at-mem run) (κ₂, (κ₃, tt)) args tt r)))) (id⊢ 𝓤 _) $ await ! tt $ pick ! (λ r.
         -- what the callee ensures, at some last values
-        split ! $ move ! (1 ∷ []) $ use1 W (some (λ (zs : Unit {0} × (Unit {0} × (Unit {0} × (Unit {0} × (Unit {0} × Unit {0}))))). ‵ (lasts g.ended (κ₂, (κ₃, tt)) args zs) ⊛ raw (fact 𝓤 (Says r)))) (id⊢ 𝓤 _) $ pick ! (λ zs.
+        split ! $ move ! (1 ∷ []) $ use1 W (some
+        (λ (zs : Unit {0} × (Unit {0} × (Unit {0} × (Unit {0} × (Unit {0} × Unit {0}))))). ‵ (lasts g.ended (κ₂, (κ₃, tt)) args zs)
+        ⊛ raw (fact 𝓤 (Says r)))) (id⊢ 𝓤 _) $ pick ! (λ zs.
         split ! $ move ! (1 ∷ []) $ heard ! (Says r) (λ e.
         drop ! $
         split ! $ move ! (1 ∷ []) $ peeks ! u64 (Is u64) (shows 𝓤 H A u64) r (v ∷ []) (λ is.
         -- [the result's; the other tokens; the record's token; the state's token; _7; …; to room for _0; …]
         land ! (from ! (stop !)) (init ! 18 refl (uint-lawful 𝓤 H A W w64 .typed r _ is .0)) $
-        returns ! (look ! 18 refl) $ forget ! 4 refl $ forget ! 6 refl $ forget ! 8 refl $ forget ! 10 refl $ forget ! 12 refl $ forget ! 14 refl $ forget ! 16 refl $ forget ! 18 refl $
-        move ! (18 ∷ 19 ∷ []) $ free1 ! $ move ! (16 ∷ 17 ∷ []) $ free1 ! $ move ! (14 ∷ 15 ∷ []) $ free1 ! $ move ! (12 ∷ 13 ∷ []) $ free1 ! $ move ! (10 ∷ 11 ∷ []) $ free1 ! $ move ! (8 ∷ 9 ∷ []) $ free1 ! $ move ! (6 ∷ 7 ∷ []) $ free1 ! $ move ! (4 ∷ 5 ∷ []) $ free1 ! $ free0 ! $
+        returns ! (look ! 18 refl) $ forget ! 4 refl $ forget ! 6 refl $ forget ! 8 refl $ forget ! 10 refl $ forget ! 12 refl $ forget ! 14 refl $
+        forget ! 16 refl $ forget ! 18 refl $
+        move ! (18 ∷ 19 ∷ []) $ free1 ! $ move ! (16 ∷ 17 ∷ []) $ free1 ! $ move ! (14 ∷ 15 ∷ []) $ free1 ! $ move ! (12 ∷ 13 ∷ []) $ free1 ! $
+        move ! (10 ∷ 11 ∷ []) $ free1 ! $ move ! (8 ∷ 9 ∷ []) $ free1 ! $ move ! (6 ∷ 7 ∷ []) $ free1 ! $ move ! (4 ∷ 5 ∷ []) $ free1 ! $ free0 ! $
         keep ! (3 ∷ 2 ∷ 1 ∷ 0 ∷ []) $ by ! (exits r v e))))))))))))))))
 
 module _ {M : Type 1} (𝓤 : URA M) (H : Heap 𝓤) (A : Atoms 𝓤) (W : Given 𝓤 H A) (at-mem : Memory → SProp 𝓤) (run : Routine → Fun 𝓤) where
@@ -167,13 +254,31 @@ module _ {M : Type 1} (𝓤 : URA M) (H : Heap 𝓤) (A : Atoms 𝓤) (W : Given
       → Walks 𝓤 H A f.ended stayed (WpFn 𝓤 H C Λ code.function) (f.clauses 𝓤 H A at-mem run)
   walks C Λ fm known = walked 𝓤 H A f.ended stayed (f.clauses 𝓤 H A at-mem run) (WpFn 𝓤 H C Λ code.function)
       (λ κs. (ptr-vals, (ptr-vals, (slice-vals, (slice-vals, (uint-vals w32, tt))))))
-      (λ κs. (shr-tells (named 0) (κs .0) S.the-row, (shr-tells (named 1) (κs .1 .0) T.the-row, (shr-slice-tells (named 2) (κs .1 .1 .0) u8, (shr-slice-tells (named 3) (κs .1 .1 .1 .0) u8, (uint-tells w32, tt))))))
-      (λ κs qs bounds a g are. via 𝓤 _ (fst∗ 𝓤 _ (emp 𝓤)) (walk 𝓤 H A W at-mem run (κs .0) (κs .1 .0) (κs .1 .1 .0) (κs .1 .1 .1 .0) (qs .0) (qs .1 .0) (qs .1 .1 .0) (qs .1 .1 .1 .0) bounds
+      (λ κs. (
+        shr-tells (named 0) (κs .0) S.the-row,
+        (
+          shr-tells (named 1) (κs .1 .0) T.the-row,
+          (shr-slice-tells (named 2) (κs .1 .1 .0) u8, (shr-slice-tells (named 3) (κs .1 .1 .1 .0) u8, (uint-tells w32, tt))),
+        ),
+      ))
+      (λ κs qs bounds a g are. via 𝓤 _ (fst∗ 𝓤 _ (emp 𝓤)) (walk 𝓤 H A W at-mem run (κs .0) (κs .1 .0) (κs .1 .1 .0) (κs .1 .1 .1 .0) (qs .0)
+      (qs .1 .0) (qs .1 .1 .0) (qs .1 .1 .1 .0) bounds
       (a .0) (a .1 .0) (a .1 .1 .0) (a .1 .1 .1 .0) (a .1 .1 .1 .1 .0) C Λ fm known (are .1 .1 .0) (are .1 .1 .1 .0) (are .1 .1 .1 .1 .0 .1)))
 
   goes-all : AllGo 𝓤 H A W 4 (f.signature .params) (f.ended .kept) stayed
-  goes-all =
-      (goes-dropped 𝓤 H A W 4 state-slot yes (λ κs x f. refl), (goes-dropped 𝓤 H A W 4 cp15-slot yes (λ κs x f. refl), (goes-dropped 𝓤 H A W 4 memory-slot yes (λ κs x f. refl), (goes-dropped 𝓤 H A W 4 store-slot yes (λ κs x f. refl), (goes-dropped 𝓤 H A W 4 number yes (λ κs x f. refl), tt)))))
+  goes-all = (
+    goes-dropped 𝓤 H A W 4 state-slot yes (λ κs x f. refl),
+    (
+      goes-dropped 𝓤 H A W 4 cp15-slot yes (λ κs x f. refl),
+      (
+        goes-dropped 𝓤 H A W 4 memory-slot yes (λ κs x f. refl),
+        (
+          goes-dropped 𝓤 H A W 4 store-slot yes (λ κs x f. refl),
+          (goes-dropped 𝓤 H A W 4 number yes (λ κs x f. refl), tt),
+        ),
+      ),
+    ),
+  )
 
 meets : {M : Type 1} (𝓤 : URA M) (H : Heap 𝓤) (A : Atoms 𝓤) (W : Given 𝓤 H A) (at-mem : Memory → SProp 𝓤) (run : Routine → Fun 𝓤) (𝓣 : Tables 𝓤 H)
     → Triple 𝓤 (𝓣 .C #inspect·look-code) (Value 𝓤 H A at-mem run) → Meets 𝓤 H A f.signature (WpFn 𝓤 H (𝓣 .C) (𝓣 .Λ) code.function) (f.spec 𝓤 H A at-mem run)

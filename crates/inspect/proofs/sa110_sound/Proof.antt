@@ -17,8 +17,58 @@ use ghost.Atoms.{Atoms}
 use contract.Monad.{Fun, fact}
 use contract.Lifetimes.{AllOutlive}
 use contract.Running.{givenOf, tables, tablesOf}
-use types.Kit.{Given, Item, ‵, raw, _⊛_, ⋆, some, later, _$_, _∵_, !, qed, by, move, keep, drop, use1, use2, split, join, pick, fjoin, suffices, frame, await, done}
-use types.Run.{look, look-raw, init, forget, stop, hop, from, load, and-then, no-more, land, of-opd, assigns, returns, enter, alloc1, alloc0, params1, pass1, pass0, free1, free0}
+use types.Kit.{
+  Given,
+  Item,
+  ‵,
+  raw,
+  _⊛_,
+  ⋆,
+  some,
+  later,
+  _$_,
+  _∵_,
+  !,
+  qed,
+  by,
+  move,
+  keep,
+  drop,
+  use1,
+  use2,
+  split,
+  join,
+  pick,
+  fjoin,
+  suffices,
+  frame,
+  await,
+  done,
+}
+use types.Run.{
+  look,
+  look-raw,
+  init,
+  forget,
+  stop,
+  hop,
+  from,
+  load,
+  and-then,
+  no-more,
+  land,
+  of-opd,
+  assigns,
+  returns,
+  enter,
+  alloc1,
+  alloc0,
+  params1,
+  pass1,
+  pass0,
+  free1,
+  free0,
+}
 use sound.WpLaws.{FmC, fmOf, WpFn-mono}
 use denote.RattleType.{owns}
 use denote.Laws.{Is, shows}
@@ -99,7 +149,8 @@ module _ {M : Type 1} (𝓤 : URA M) (H : Heap 𝓤) (A : Atoms 𝓤) (W : Given
   goes : Is S.the-row (state .now) (LL.vals S.the-type S′.the-laws (state .now)) → Is T.the-row (cp15 .now) (LL.vals T.the-type T′.the-laws (cp15 .now))
       → ent 𝓤 (⋆ 𝓤 H A (‵ ftrue ∷ ‵ (owns (usize ∷ []) (x .1 .1) (at .1 .1)) ∷ [])) (Value 𝓤 H A at-mem run .pre to)
   goes s-is c-is =
-      qed W (‵ ftrue ∷ ‵ (owns (usize ∷ []) (x .1 .1) (at .1 .1)) ∷ []) ∵ move ! (1 ∷ []) $ owned ! T.the-row (Is T.the-row) (LL.makes T.the-type T′.the-plain 𝓤 H A) (cp15 .now) _ c-is $ fjoin ! $
+      qed W (‵ ftrue ∷ ‵ (owns (usize ∷ []) (x .1 .1) (at .1 .1)) ∷ []) ∵ move ! (1 ∷ []) $
+      owned ! T.the-row (Is T.the-row) (LL.makes T.the-type T′.the-plain 𝓤 H A) (cp15 .now) _ c-is $ fjoin ! $
       owned ! S.the-row (Is S.the-row) (LL.makes S.the-type S′.the-plain 𝓤 H A) (state .now) _ s-is $ fjoin ! $ move ! (1 ∷ 0 ∷ []) $ join ! $ frame ! $ done !
 
   abbrev left : ℕ → Val → List (Item 𝓤)
@@ -108,13 +159,17 @@ module _ {M : Type 1} (𝓤 : URA M) (H : Heap 𝓤) (A : Atoms 𝓤) (W : Given
   exits : (r : ℕ) (v : Val) → Says r → ent 𝓤 (⋆ 𝓤 H A (left r v)) (Post v)
   exits r v e =
       qed W (left r v) ∵
-      suffices ! _ (ends-at 𝓤 H A f.ended stayed (f.clauses 𝓤 H A at-mem run) W (((κ₀, (κ₁, tt)), (q₀, (q₁, tt)), bounds, x, at), tt) v r (tt, (tt, (tt, tt))) (tt, (tt, (tt, tt)))) $ says ! e $
+      suffices ! _ (ends-at 𝓤 H A f.ended stayed (f.clauses 𝓤 H A at-mem run) W (((κ₀, (κ₁, tt)), (q₀, (q₁, tt)), bounds, x, at), tt) v r (
+        tt,
+        (tt, (tt, tt)),
+      ) (tt, (tt, (tt, tt)))) $ says ! e $
       move ! (1 ∷ 2 ∷ []) $ join ! $ move ! (1 ∷ 0 ∷ []) $ join ! $ frame ! $
       nothing ! $ nothing ! $ fjoin ! $ nothing ! $ fjoin ! $ nothing ! $ fjoin ! $ frame ! $ done !
 
   module _ (C : Calls 𝓤 H) (Λ : Loops 𝓤 H) (fm : FmC 𝓤 H (W .laws) C) (known : Triple 𝓤 (C #inspect·sound-code) (Value 𝓤 H A at-mem run)) where
     walk : n < 2 ^ 64 →
-        ent 𝓤 (onEntry 𝓤 H A f.signature (κ₀, (κ₁, tt)) (q₀, (q₁, tt)) x at) (WpFn 𝓤 H C Λ code.function (vptr (state .ptr .0) (state .ptr .1) ∷ vptr (cp15 .ptr .0) (cp15 .ptr .1) ∷ vint w64 n ∷ []) Post)
+        ent 𝓤 (onEntry 𝓤 H A f.signature (κ₀, (κ₁, tt)) (q₀, (q₁, tt)) x at)
+        (WpFn 𝓤 H C Λ code.function (vptr (state .ptr .0) (state .ptr .1) ∷ vptr (cp15 .ptr .0) (cp15 .ptr .1) ∷ vint w64 n ∷ []) Post)
     walk n-is =
         qed W ((‵ (flft κ₀ q₀) ⊛ ‵ (flft κ₁ q₁) ⊛ ‵ ftrue) ∷ ‵ (owns (ShrRef (named 0) κ₀ S.the-row ∷ ShrRef (named 1) κ₁ T.the-row ∷ usize ∷ []) x at) ∷ []) ∵
         enter ! C Λ code.function (vptr (state .ptr .0) (state .ptr .1) ∷ vptr (cp15 .ptr .0) (cp15 .ptr .1) ∷ vint w64 n ∷ []) _ $
@@ -123,27 +178,33 @@ module _ {M : Type 1} (𝓤 : URA M) (H : Heap 𝓤) (A : Atoms 𝓤) (W : Given
         -- [room for _5; …; to room for _0; …; the tokens; what the parameters own]
         move ! (12 ∷ 13 ∷ []) $ look-lent ! tt (named 0) S.the-type S′.the-laws S′.the-copy state (λ q′ s-is.
         -- [a share of the state's cell; own; the open borrow; the other tokens; what the others own; room for _5; …; to room for _0; …]
-        assigns ! (of-opd ! (load ! (from ! (hop ! (look ! 13 refl) (stop !))) (look-raw ! 0 refl))) (from ! (stop !)) (init ! 7 refl (LL.lawful S.the-type S′.the-laws 𝓤 H A W .typed (state .now) _ s-is .0)) $
+        assigns ! (of-opd ! (load ! (from ! (hop ! (look ! 13 refl) (stop !))) (look-raw ! 0 refl))) (from ! (stop !))
+        (init ! 7 refl (LL.lawful S.the-type S′.the-laws 𝓤 H A W .typed (state .now) _ s-is .0)) $
         shuts ! tt S.the-row q′ (state .now) (LL.vals S.the-type S′.the-laws (state .now)) (state .ptr .0) (state .ptr .1) $
         -- [the state's token; the other tokens; what the others own; room for _5; …; to room for _0; …]
         move ! (1 ∷ 2 ∷ []) $ look-lent ! tt (named 1) T.the-type T′.the-laws T′.the-copy cp15 (λ q″ c-is.
         -- [a share of the record's cell; own; the open borrow; the other tokens; what the others own; the state's token; room for _5; …; to room for _0; …]
-        assigns ! (of-opd ! (load ! (from ! (hop ! (look ! 12 refl) (stop !))) (look-raw ! 0 refl))) (from ! (stop !)) (init ! 6 refl (LL.lawful T.the-type T′.the-laws 𝓤 H A W .typed (cp15 .now) _ c-is .0)) $
+        assigns ! (of-opd ! (load ! (from ! (hop ! (look ! 12 refl) (stop !))) (look-raw ! 0 refl))) (from ! (stop !))
+        (init ! 6 refl (LL.lawful T.the-type T′.the-laws 𝓤 H A W .typed (cp15 .now) _ c-is .0)) $
         shuts ! tt T.the-row q″ (cp15 .now) (LL.vals T.the-type T′.the-laws (cp15 .now)) (cp15 .ptr .0) (cp15 .ptr .1) $
         -- [the record's token; the other tokens; what the others own; the state's token; _5; …; to room for _0; …]
         move ! (1 ∷ 2 ∷ []) $ use2 W (raw (Value 𝓤 H A at-mem run .pre to)) (goes s-is c-is) $
         calls-at ! fm (Value 𝓤 H A at-mem run) known to
-        (and-then ! (load ! (from ! (stop !)) (look ! 5 refl)) (and-then ! (load ! (from ! (stop !)) (look ! 3 refl)) (and-then ! (load ! (from ! (stop !)) (look ! 7 refl)) (no-more !)))) (λ v.
-        use1 W (later (some (λ (r : ℕ). (‵ ftrue ⊛ ‵ (u32 .own r (v ∷ []))) ⊛ raw (ensured 𝓤 H A g.ended (g.clauses 𝓤 H A at-mem run) tt args tt r)))) (id⊢ 𝓤 _) $ await ! tt $ pick ! (λ r.
+        (and-then ! (load ! (from ! (stop !)) (look ! 5 refl)) (and-then ! (load ! (from ! (stop !)) (look ! 3 refl))
+        (and-then ! (load ! (from ! (stop !)) (look ! 7 refl)) (no-more !)))) (λ v.
+        use1 W (later (some (λ (r : ℕ). (‵ ftrue ⊛ ‵ (u32 .own r (v ∷ []))) ⊛ raw (ensured 𝓤 H A g.ended (g.clauses 𝓤 H A at-mem run) tt args tt r))))
+        (id⊢ 𝓤 _) $ await ! tt $ pick ! (λ r.
         -- what the callee ensures, at some last values
-        split ! $ move ! (1 ∷ []) $ use1 W (some (λ (zs : Unit {0} × (Unit {0} × (Unit {0} × Unit {0}))). ‵ (lasts g.ended tt args zs) ⊛ raw (fact 𝓤 (Says r)))) (id⊢ 𝓤 _) $ pick ! (λ zs.
+        split ! $ move ! (1 ∷ []) $ use1 W (some
+        (λ (zs : Unit {0} × (Unit {0} × (Unit {0} × Unit {0}))). ‵ (lasts g.ended tt args zs) ⊛ raw (fact 𝓤 (Says r)))) (id⊢ 𝓤 _) $ pick ! (λ zs.
         split ! $ move ! (1 ∷ []) $ heard ! (Says r) (λ e.
         drop ! $
         split ! $ move ! (1 ∷ []) $ peeks ! u32 (Is u32) (shows 𝓤 H A u32) r (v ∷ []) (λ is.
         -- [the result's; the other tokens; the record's token; the state's token; _5; …; to room for _0; …]
         land ! (from ! (stop !)) (init ! 14 refl (uint-lawful 𝓤 H A W w32 .typed r _ is .0)) $
         returns ! (look ! 14 refl) $ forget ! 4 refl $ forget ! 6 refl $ forget ! 8 refl $ forget ! 10 refl $ forget ! 12 refl $ forget ! 14 refl $
-        move ! (14 ∷ 15 ∷ []) $ free1 ! $ move ! (12 ∷ 13 ∷ []) $ free1 ! $ move ! (10 ∷ 11 ∷ []) $ free1 ! $ move ! (8 ∷ 9 ∷ []) $ free1 ! $ move ! (6 ∷ 7 ∷ []) $ free1 ! $ move ! (4 ∷ 5 ∷ []) $ free1 ! $ free0 ! $
+        move ! (14 ∷ 15 ∷ []) $ free1 ! $ move ! (12 ∷ 13 ∷ []) $ free1 ! $ move ! (10 ∷ 11 ∷ []) $ free1 ! $ move ! (8 ∷ 9 ∷ []) $ free1 ! $
+        move ! (6 ∷ 7 ∷ []) $ free1 ! $ move ! (4 ∷ 5 ∷ []) $ free1 ! $ free0 ! $
         keep ! (3 ∷ 2 ∷ 1 ∷ 0 ∷ []) $ by ! (exits r v e))))))))))))))
 
 module _ {M : Type 1} (𝓤 : URA M) (H : Heap 𝓤) (A : Atoms 𝓤) (W : Given 𝓤 H A) (at-mem : Memory → SProp 𝓤) (run : Routine → Fun 𝓤) where
@@ -152,11 +213,17 @@ module _ {M : Type 1} (𝓤 : URA M) (H : Heap 𝓤) (A : Atoms 𝓤) (W : Given
   walks C Λ fm known = walked 𝓤 H A f.ended stayed (f.clauses 𝓤 H A at-mem run) (WpFn 𝓤 H C Λ code.function)
       (λ κs. (ptr-vals, (ptr-vals, (uint-vals w64, tt))))
       (λ κs. (shr-tells (named 0) (κs .0) S.the-row, (shr-tells (named 1) (κs .1 .0) T.the-row, (uint-tells w64, tt))))
-      (λ κs qs bounds a g are. via 𝓤 _ (fst∗ 𝓤 _ (emp 𝓤)) (walk 𝓤 H A W at-mem run (κs .0) (κs .1 .0) (qs .0) (qs .1 .0) bounds (a .0) (a .1 .0) (a .1 .1 .0) C Λ fm known (are .1 .1 .0 .1)))
+      (λ κs qs bounds a g are. via 𝓤 _ (fst∗ 𝓤 _ (emp 𝓤)) (walk 𝓤 H A W at-mem run (κs .0) (κs .1 .0) (qs .0) (qs .1 .0) bounds (a .0) (a .1 .0)
+      (a .1 .1 .0) C Λ fm known (are .1 .1 .0 .1)))
 
   goes-all : AllGo 𝓤 H A W 2 (f.signature .params) (f.ended .kept) stayed
-  goes-all =
-      (goes-dropped 𝓤 H A W 2 state-slot yes (λ κs x f. refl), (goes-dropped 𝓤 H A W 2 cp15-slot yes (λ κs x f. refl), (goes-dropped 𝓤 H A W 2 length-slot yes (λ κs x f. refl), tt)))
+  goes-all = (
+    goes-dropped 𝓤 H A W 2 state-slot yes (λ κs x f. refl),
+    (
+      goes-dropped 𝓤 H A W 2 cp15-slot yes (λ κs x f. refl),
+      (goes-dropped 𝓤 H A W 2 length-slot yes (λ κs x f. refl), tt),
+    ),
+  )
 
 meets : {M : Type 1} (𝓤 : URA M) (H : Heap 𝓤) (A : Atoms 𝓤) (W : Given 𝓤 H A) (at-mem : Memory → SProp 𝓤) (run : Routine → Fun 𝓤) (𝓣 : Tables 𝓤 H)
     → Triple 𝓤 (𝓣 .C #inspect·sound-code) (Value 𝓤 H A at-mem run) → Meets 𝓤 H A f.signature (WpFn 𝓤 H (𝓣 .C) (𝓣 .Λ) code.function) (f.spec 𝓤 H A at-mem run)

@@ -18,10 +18,14 @@ enum-known-found c = search needs
 
 load-hit-requires : tie.Need-load-hit-requires
 load-hit-requires c κs =
-    let b1 = c .before in let b2 = b1 .before in let b3 = b2 .before in let b4 = b3 .before in let b5 = b4 .before in let b6 = b5 .before in
-    let b7 = b6 .before in let b8 = b7 .before in let b9 = b8 .before in let b10 = b9 .before in let b11 = b10 .before in
-    let b12 = b11 .before in
-    (b12 .pre .0 .store-long, find-low (now (b12 .args .lines)) _ _ (b12 .pre .0 .lines-long) (sym (b4 .find .ensures) ∙ b2 .found .given .1), b12 .pre .1, b12 .pre .0 .hits)
+    let of-found = c .before .before in let after-find = of-found .before .before in
+    let start = after-find .before .before .before .before .before .before .before .before in (
+      start .pre .0 .store-long,
+      find-low (now (start .args .lines)) _ _ (start .pre .0 .lines-long)
+          (sym (after-find .find .ensures) ∙ of-found .found .given .1),
+      start .pre .1,
+      start .pre .0 .hits,
+    )
 
 enum-told : tie.Need-enum-told
 enum-told c = search needs
@@ -37,14 +41,14 @@ same-length-2 c = search needs
 
 returns : tie.Need-returns
 returns c =
-    let b1 = c .before in let b2 = b1 .before in let b3 = b2 .before in let b4 = b3 .before in let b5 = b4 .before in let b6 = b5 .before in
-    let b7 = b6 .before in let b8 = b7 .before in let b9 = b8 .before in let b10 = b9 .before in let b11 = b10 .before in
-    let b12 = b11 .before in let b13 = b12 .before in
-    let a = b13 .args in
+    let of-found = c .before .before .before in let after-find = of-found .before .before in let after-cleared = after-find .before .before in
+    let start = after-cleared .before .before .before .before .before .before in
+    let a = start .args in
     let l = (lists (now (a .memory)) (now (a .words)) (now (a .bytes)) (now (a .lines)) (now (a .pointers)) (now (a .store))) in
     record {
-      same = λ es n. c .load-hit .ensures l es n refl ∙ sym (found-hit (machineOf l es (a .s) n) (a .a) (a .p) _ _ (b7 .cleared .ensures) (sym (b5 .find .ensures) ∙ b3 .found .given .1));
-      bytes-long = b13 .pre .0 .fits .bytes-long;
+      same = λ es n. c .load-hit .ensures l es n refl ∙ sym
+          (found-hit (machineOf l es (a .s) n) (a .a) (a .p) _ _ (after-cleared .cleared .ensures) (sym (after-find .find .ensures) ∙ of-found .found .given .1));
+      bytes-long = start .pre .0 .fits .bytes-long;
     }
 
 same-length-3 : tie.Need-same-length-3
@@ -64,17 +68,16 @@ same-length-7 c = search needs
 
 returns-2 : tie.Need-returns-2
 returns-2 c =
-    let b1 = c .before in let b2 = b1 .before in let b3 = b2 .before in let b4 = b3 .before in let b5 = b4 .before in let b6 = b5 .before in
-    let b7 = b6 .before in let b8 = b7 .before in let b9 = b8 .before in let b10 = b9 .before in let b11 = b10 .before in
-    let b12 = b11 .before in let b13 = b12 .before in let b14 = b13 .before in let b15 = b14 .before in let b16 = b15 .before in
-    let b17 = b16 .before in let b18 = b17 .before in let b19 = b18 .before in let b20 = b19 .before in let b21 = b20 .before in
-    let b22 = b21 .before in let b23 = b22 .before in let b24 = b23 .before in let b25 = b24 .before in let b26 = b25 .before in
-    let b27 = b26 .before in
-    let a = b27 .args in
+    let after-load-miss = c .before .before .before .before .before .before .before .before .before .before in
+    let of-enum-told = after-load-miss .before .before .before .before .before .before .before in let after-find = of-enum-told .before .before in
+    let after-cleared = after-find .before .before in let start = after-cleared .before .before .before .before .before .before in
+    let a = start .args in
     let l = (lists (now (a .memory)) (now (a .words)) (now (a .bytes)) (now (a .lines)) (now (a .pointers)) (now (a .store))) in
     record {
-      same = λ es n. b10 .load-miss .ensures .same es n ∙ sym (found-none (machineOf l es (a .s) n) (a .a) (a .p) _ (b21 .cleared .ensures) (sym (b19 .find .ensures) ∙ b17 .enum-told .given .1));
-      bytes-long = b10 .load-miss .ensures .bytes-long;
+      same = λ es n. after-load-miss .load-miss .ensures .same es n ∙ sym
+          (found-none (machineOf l es (a .s) n) (a .a) (a .p) _ (after-cleared .cleared .ensures)
+          (sym (after-find .find .ensures) ∙ of-enum-told .enum-told .given .1));
+      bytes-long = after-load-miss .load-miss .ensures .bytes-long;
     }
 
 pub load-spec : {M : Type 1} → statement M

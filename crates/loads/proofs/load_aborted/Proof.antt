@@ -18,10 +18,11 @@ faulted-requires c κs = search needs
 
 returns : tie.Need-returns
 returns c =
-    let b1 = c .before in let b2 = b1 .before in let b3 = b2 .before in let b4 = b3 .before in let b5 = b4 .before in let b6 = b5 .before in
-    let a = b6 .args in
-    let f : fills (a .s .cp15 .registers) (a .p) ≡ true = sym (b3 .fills .ensures) ∙ b2 .if1 .taken in
-    λ l es n h. rw (c .faulted .ensures l es n, b1 .fill-status .ensures) (sym (fill-aborts (machineOf l es (a .s) n) (a .a) (a .p) h f))
+    let after-fill-status = c .before in let then1 = after-fill-status .before in let after-fills = then1 .before in
+    let start = after-fills .before .before .before in
+    let a = start .args in
+    let f : fills (a .s .cp15 .registers) (a .p) ≡ true = sym (after-fills .fills .ensures) ∙ then1 .if1 .taken in
+    λ l es n h. rw (c .faulted .ensures l es n, after-fill-status .fill-status .ensures) (sym (fill-aborts (machineOf l es (a .s) n) (a .a) (a .p) h f))
 
 other-status-requires : tie.Need-other-status-requires
 other-status-requires c κs = search needs
@@ -31,10 +32,11 @@ faulted-requires-2 c κs = search needs
 
 returns-2 : tie.Need-returns-2
 returns-2 c =
-    let b1 = c .before in let b2 = b1 .before in let b3 = b2 .before in let b4 = b3 .before in let b5 = b4 .before in let b6 = b5 .before in
-    let a = b6 .args in
-    let f : fills (a .s .cp15 .registers) (a .p) ≡ false = sym (b3 .fills .ensures) ∙ b2 .if1 .left in
-    λ l es n h. rw (c .faulted2 .ensures l es n, b1 .other-status .ensures) (sym (uncached-aborts (machineOf l es (a .s) n) (a .a) (a .p) h f))
+    let after-other-status = c .before in let else1 = after-other-status .before in let after-fills = else1 .before in
+    let start = after-fills .before .before .before in
+    let a = start .args in
+    let f : fills (a .s .cp15 .registers) (a .p) ≡ false = sym (after-fills .fills .ensures) ∙ else1 .if1 .left in
+    λ l es n h. rw (c .faulted2 .ensures l es n, after-other-status .other-status .ensures) (sym (uncached-aborts (machineOf l es (a .s) n) (a .a) (a .p) h f))
 
 pub load-aborted-spec : {M : Type 1} → statement M
 load-aborted-spec =

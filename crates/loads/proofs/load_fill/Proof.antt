@@ -12,45 +12,43 @@ cleared-requires c κs = search needs
 
 victim-requires : tie.Need-victim-requires
 victim-requires c κs =
-    let b1 = c .before in let b2 = b1 .before in let b3 = b2 .before in let b4 = b3 .before in let b5 = b4 .before in let b6 = b5 .before in
-    let b7 = b6 .before in
-    (b7 .pre .0 .pointers-long, b7 .pre .0 .pointers-low _ (omega arith))
+    let start = c .before .before .before .before .before .before .before in
+    (start .pre .0 .pointers-long, start .pre .0 .pointers-low _ (omega arith))
 
 fill-requires : tie.Need-fill-requires
 fill-requires c κs =
-    let b1 = c .before in let b2 = b1 .before in let b3 = b2 .before in let b4 = b3 .before in let b5 = b4 .before in let b6 = b5 .before in
-    let b7 = b6 .before in let b8 = b7 .before in let b9 = b8 .before in let b10 = b9 .before in let b11 = b10 .before in
-    let b12 = b11 .before in let b13 = b12 .before in let b14 = b13 .before in
-    let a = b14 .args in (b14 .pre .0 .fits, fills-line (lists (now (a .memory)) (now (a .words)) (now (a .bytes)) (now (a .lines)) (now (a .pointers)) (now (a .store))) (a .s) (b14 .pre .0) _ (a .p) (b14 .pre .2))
+    let start = c .before .before .before .before .before .before .before .before .before .before .before .before .before .before in
+    let a = start .args in (
+      start .pre .0 .fits,
+      fills-line
+          (lists (now (a .memory)) (now (a .words)) (now (a .bytes)) (now (a .lines)) (now (a .pointers)) (now (a .store))) (a .s) (start .pre .0) _ (a .p)
+          (start .pre .2),
+    )
 
 load-requires : tie.Need-load-requires
 load-requires c κs =
-    let b1 = c .before in let b2 = b1 .before in let b3 = b2 .before in let b4 = b3 .before in let b5 = b4 .before in let b6 = b5 .before in
-    let b7 = b6 .before in let b8 = b7 .before in let b9 = b8 .before in let b10 = b9 .before in let b11 = b10 .before in
-    let b12 = b11 .before in let b13 = b12 .before in let b14 = b13 .before in let b15 = b14 .before in let b16 = b15 .before in
-    let b17 = b16 .before in let b18 = b17 .before in let b19 = b18 .before in let b20 = b19 .before in let b21 = b20 .before in
-    let b22 = b21 .before in let b23 = b22 .before in let b24 = b23 .before in let b25 = b24 .before in let b26 = b25 .before in
-    (search needs, b18 .victim .ensures .1, b26 .pre .1, rw (b20 .cleared .ensures) (in-line (b26 .args .a) (b26 .pre .1)))
+    let after-victim = c .before .before .before .before .before .before .before .before .before .before .before .before .before .before .before
+    .before .before .before in
+    let after-cleared = after-victim .before .before in let start = after-cleared .before .before .before .before .before .before in
+    (search needs, after-victim .victim .ensures .1, start .pre .1, rw (after-cleared .cleared .ensures) (in-line (start .args .a) (start .pre .1)))
 
 after-fill-requires : tie.Need-after-fill-requires
 after-fill-requires c κs =
-    let b1 = c .before in let b2 = b1 .before in let b3 = b2 .before in let b4 = b3 .before in let b5 = b4 .before in let b6 = b5 .before in
-    let b7 = b6 .before in let b8 = b7 .before in let b9 = b8 .before in let b10 = b9 .before in let b11 = b10 .before in
-    let b12 = b11 .before in let b13 = b12 .before in let b14 = b13 .before in let b15 = b14 .before in let b16 = b15 .before in
-    let b17 = b16 .before in let b18 = b17 .before in let b19 = b18 .before in let b20 = b19 .before in let b21 = b20 .before in
-    let b22 = b21 .before in let b23 = b22 .before in let b24 = b23 .before in let b25 = b24 .before in let b26 = b25 .before in
-    let b27 = b26 .before in
-    let a = b27 .args in (b27 .pre .0 .fills, fill-room (lists (now (a .memory)) (now (a .words)) (now (a .bytes)) (now (a .lines)) (now (a .pointers)) (now (a .store))) (a .s) (b27 .pre .0) _ (a .p) _ (b12 .fill .ensures .count))
+    let after-fill = c .before .before .before .before .before .before .before .before .before .before .before .before in
+    let start = after-fill .before .before .before .before .before .before .before .before .before .before .before .before .before .before .before in
+    let a = start .args in (
+      start .pre .0 .fills,
+      fill-room
+          (lists (now (a .memory)) (now (a .words)) (now (a .bytes)) (now (a .lines)) (now (a .pointers)) (now (a .store))) (a .s) (start .pre .0) _ (a .p)
+          _ (after-fill .fill .ensures .count),
+    )
 
 load-answer-requires : tie.Need-load-answer-requires
 load-answer-requires c κs =
-    let b1 = c .before in let b2 = b1 .before in let b3 = b2 .before in let b4 = b3 .before in let b5 = b4 .before in let b6 = b5 .before in
-    let b7 = b6 .before in let b8 = b7 .before in let b9 = b8 .before in let b10 = b9 .before in let b11 = b10 .before in
-    let b12 = b11 .before in let b13 = b12 .before in let b14 = b13 .before in let b15 = b14 .before in let b16 = b15 .before in
-    let b17 = b16 .before in let b18 = b17 .before in let b19 = b18 .before in let b20 = b19 .before in let b21 = b20 .before in
-    let b22 = b21 .before in let b23 = b22 .before in let b24 = b23 .before in let b25 = b24 .before in let b26 = b25 .before in
-    let b27 = b26 .before in let b28 = b27 .before in
-    (b28 .pre .1, b1 .load .ensures .fits)
+    let after-load = c .before in
+    let start = after-load .before .before .before .before .before .before .before .before .before .before .before .before .before .before .before
+    .before .before .before .before .before .before .before .before .before .before .before .before in
+    (start .pre .1, after-load .load .ensures .fits)
 
 same-length : tie.Need-same-length
 same-length c = search needs
@@ -69,16 +67,16 @@ same-length-5 c = search needs
 
 returns : tie.Need-returns
 returns c =
-    let b1 = c .before in let b2 = b1 .before in let b3 = b2 .before in let b4 = b3 .before in let b5 = b4 .before in let b6 = b5 .before in
-    let b7 = b6 .before in let b8 = b7 .before in let b9 = b8 .before in let b10 = b9 .before in let b11 = b10 .before in
-    let b12 = b11 .before in let b13 = b12 .before in let b14 = b13 .before in let b15 = b14 .before in let b16 = b15 .before in
-    let b17 = b16 .before in let b18 = b17 .before in let b19 = b18 .before in let b20 = b19 .before in let b21 = b20 .before in
-    let b22 = b21 .before in let b23 = b22 .before in let b24 = b23 .before in let b25 = b24 .before in let b26 = b25 .before in
-    let b27 = b26 .before in let b28 = b27 .before in let b29 = b28 .before in
-    let a = b29 .args in
+    let after-after-fill = c .before in let after-load = after-after-fill .before in
+    let after-fill = after-load .before .before .before .before .before .before .before .before .before .before .before .before in
+    let after-victim = after-fill .before .before .before .before .before .before .before in let after-cleared = after-victim .before .before in
+    let start = after-cleared .before .before .before .before .before .before in
+    let a = start .args in
     record {
-      same = λ es n. fill-left es (a .s) n (a .a) (lists (now (a .memory)) (now (a .words)) (now (a .bytes)) (now (a .lines)) (now (a .pointers)) (now (a .store))) _ (a .p) _ _ _ _ _ _ _ (b23 .cleared .ensures) (b21 .victim .ensures .0) (b14 .fill .ensures) (b2 .load .ensures .value) (b1 .after-fill .ensures) (c .load-answer .ensures);
-      bytes-long = b14 .fill .ensures .fits .bytes-long;
+      same = λ es n. fill-left es (a .s) n (a .a) (lists (now (a .memory)) (now (a .words)) (now (a .bytes)) (now (a .lines)) (now (a .pointers))
+          (now (a .store))) _ (a .p) _ _ _ _ _ _ _ (after-cleared .cleared .ensures) (after-victim .victim .ensures .0) (after-fill .fill .ensures)
+          (after-load .load .ensures .value) (after-after-fill .after-fill .ensures) (c .load-answer .ensures);
+      bytes-long = after-fill .fill .ensures .fits .bytes-long;
     }
 
 pub load-fill-spec : {M : Type 1} → statement M

@@ -10,8 +10,8 @@ cleared-requires c κs = search needs
 
 load-requires : tie.Need-load-requires
 load-requires c κs =
-    let b1 = c .before in let b2 = b1 .before in
-    (b2 .pre .0, b2 .pre .1, b2 .pre .2, rw (c .cleared .ensures) (in-line (b2 .args .a) (b2 .pre .2)))
+    let start = c .before .before in
+    (start .pre .0, start .pre .1, start .pre .2, rw (c .cleared .ensures) (in-line (start .args .a) (start .pre .2)))
 
 hit-requires : tie.Need-hit-requires
 hit-requires c κs = search needs
@@ -21,8 +21,10 @@ load-answer-requires c κs = search needs
 
 returns : tie.Need-returns
 returns c =
-    let b1 = c .before in let b2 = b1 .before in let b3 = b2 .before in let b4 = b3 .before in let b5 = b4 .before in
-    let a = b5 .args in λ l es n e. hit-left es (a .s) n (a .a) l (now (a .store)) (a .i) _ _ _ _ e (b3 .cleared .ensures) (b2 .load .ensures .value) (b1 .hit .ensures) (c .load-answer .ensures)
+    let after-hit = c .before in let after-load = after-hit .before in let after-cleared = after-load .before in
+    let start = after-cleared .before .before in
+    let a = start .args in λ l es n e. hit-left es (a .s) n (a .a) l (now (a .store)) (a .i) _ _ _ _ e (after-cleared .cleared .ensures)
+    (after-load .load .ensures .value) (after-hit .hit .ensures) (c .load-answer .ensures)
 
 pub load-hit-spec : {M : Type 1} → statement M
 load-hit-spec =

@@ -15,8 +15,8 @@ enum-known-t-2 c = search needs
 
 place-requires : tie.Need-place-requires
 place-requires c κs =
-    let b1 = c .before in let b2 = b1 .before in let b3 = b2 .before in let b4 = b3 .before in let b5 = b4 .before in
-    (b5 .pre .0 .entries-long, b5 .pre .0 .pointer, rw (b2 .t2 .given .1) at (b5 .pre .1))
+    let of-t2 = c .before .before in let start = of-t2 .before .before .before in
+    (start .pre .0 .entries-long, start .pre .0 .pointer, rw (of-t2 .t2 .given .1) at (start .pre .1))
 
 next-requires : tie.Need-next-requires
 next-requires c κs = search needs
@@ -26,9 +26,8 @@ with-pointer-requires c κs = search needs
 
 missed-requires : tie.Need-missed-requires
 missed-requires c κs =
-    let b1 = c .before in let b2 = b1 .before in let b3 = b2 .before in let b4 = b3 .before in let b5 = b4 .before in let b6 = b5 .before in
-    let b7 = b6 .before in let b8 = b7 .before in let b9 = b8 .before in let b10 = b9 .before in
-    rw (c .with-pointer .ensures) (b10 .pre .0 .misses)
+    let start = c .before .before .before .before .before .before .before .before .before .before in
+    rw (c .with-pointer .ensures) (start .pre .0 .misses)
 
 enum-known-t-3 : tie.Need-enum-known-t-3
 enum-known-t-3 c = search needs
@@ -38,32 +37,33 @@ missed-requires-2 c κs = search needs
 
 returns : tie.Need-returns
 returns c =
-    let b1 = c .before in let b2 = b1 .before in let b3 = b2 .before in
-    let a = b3 .args in rw (c .enum-told .given .1) ((λ l n. commit-flat l (now (a .entries)) (a .s) n), stay (a .s))
+    let start = c .before .before .before in
+    let a = start .args in rw (c .enum-told .given .1) ((λ l n. commit-flat l (now (a .entries)) (a .s) n), stay (a .s))
 
 returns-2 : tie.Need-returns-2
 returns-2 c =
-    let b1 = c .before in let b2 = b1 .before in let b3 = b2 .before in let b4 = b3 .before in
-    let a = b4 .args in rw (b1 .t .given .1) ((λ l n. commit-held l (now (a .entries)) (a .s) n _), stay (a .s))
+    let of-t = c .before in let start = of-t .before .before .before in
+    let a = start .args in rw (of-t .t .given .1) ((λ l n. commit-held l (now (a .entries)) (a .s) n _), stay (a .s))
 
 same-length : tie.Need-same-length
 same-length c = search needs
 
 returns-3 : tie.Need-returns-3
 returns-3 c =
-    let b1 = c .before in let b2 = b1 .before in let b3 = b2 .before in let b4 = b3 .before in let b5 = b4 .before in let b6 = b5 .before in
-    let b7 = b6 .before in let b8 = b7 .before in let b9 = b8 .before in let b10 = b9 .before in let b11 = b10 .before in
-    let a = b11 .args in
-    rw (b8 .t2 .given .1) (
-      (λ l n. commit-walked l (now (a .entries)) (a .s) n _ (b5 .place .last .0) _ _ _ (b5 .place .ensures) (b2 .next .ensures .0) (b1 .with-pointer .ensures) (c .missed .ensures)),
-      stay-walked (a .s) _ _ _ (b1 .with-pointer .ensures) (c .missed .ensures),
+    let after-with-pointer = c .before in let after-next = after-with-pointer .before in let after-place = after-next .before .before .before in
+    let of-t2 = after-place .before .before .before in let start = of-t2 .before .before .before in
+    let a = start .args in
+    rw (of-t2 .t2 .given .1) (
+      (λ l n. commit-walked l (now (a .entries)) (a .s) n _ (after-place .place .last .0) _ _ _ (after-place .place .ensures)
+          (after-next .next .ensures .0) (after-with-pointer .with-pointer .ensures) (c .missed .ensures)),
+      stay-walked (a .s) _ _ _ (after-with-pointer .with-pointer .ensures) (c .missed .ensures),
     )
 
 returns-4 : tie.Need-returns-4
 returns-4 c =
-    let b1 = c .before in let b2 = b1 .before in let b3 = b2 .before in let b4 = b3 .before in let b5 = b4 .before in
-    let a = b5 .args in
-    rw (b2 .t3 .given .1)
+    let of-t3 = c .before .before in let start = of-t3 .before .before .before in
+    let a = start .args in
+    rw (of-t3 .t3 .given .1)
     ((λ l n. commit-failed l (now (a .entries)) (a .s) n _ _ _ (c .missed2 .ensures)), stay-missed (a .s) _ (c .missed2 .ensures))
 
 pub commit-spec : {M : Type 1} → statement M

@@ -16,9 +16,9 @@ faults-alignment-requires c κs = search needs
 
 returns : tie.Need-returns
 returns c =
-    let b1 = c .before in let b2 = b1 .before in let b3 = b2 .before in let b4 = b3 .before in
-    let a = b4 .args in
-    let e : alignmentFaults (a .r) (a .a) ≡ true = sym (b1 .faults-alignment .ensures) ∙ c .if1 .taken in
+    let after-faults-alignment = c .before in let start = after-faults-alignment .before .before .before in
+    let a = start .args in
+    let e : alignmentFaults (a .r) (a .a) ≡ true = sym (after-faults-alignment .faults-alignment .ensures) ∙ c .if1 .taken in
     record { same = sym (decided-unaligned (a .r) (a .a) _ e); ranged = tt; checked-ranged = omega arith }
 
 cleared-requires : tie.Need-cleared-requires
@@ -32,16 +32,16 @@ check-requires c κs = search needs
 
 returns-2 : tie.Need-returns-2
 returns-2 c =
-    let b1 = c .before in let b2 = b1 .before in let b3 = b2 .before in let b4 = b3 .before in let b5 = b4 .before in let b6 = b5 .before in
-    let b7 = b6 .before in
-    let a = b7 .args in
-    let e : alignmentFaults (a .r) (a .a) ≡ false = sym (b4 .faults-alignment .ensures) ∙ b3 .if1 .left in
-    let t : b1 .translate .result ≡ translation (entriesOf (now (a .entries))) (a .r) (physical (now (a .memory))) (cleared (a .a)) =
-    rw (b2 .cleared .ensures) at (b1 .translate .ensures .same)
+    let after-translate = c .before in let after-cleared = after-translate .before in let else1 = after-cleared .before in
+    let after-faults-alignment = else1 .before in let start = after-faults-alignment .before .before .before in
+    let a = start .args in
+    let e : alignmentFaults (a .r) (a .a) ≡ false = sym (after-faults-alignment .faults-alignment .ensures) ∙ else1 .if1 .left in
+    let t : after-translate .translate .result ≡ translation (entriesOf (now (a .entries))) (a .r) (physical (now (a .memory))) (cleared (a .a)) =
+    rw (after-cleared .cleared .ensures) at (after-translate .translate .ensures .same)
     in
     record {
       same = rw (c .check .ensures .same, t) (sym (decided-by (a .r) (a .a) _ e));
-      ranged = b1 .translate .ensures .ranged;
+      ranged = after-translate .translate .ensures .ranged;
       checked-ranged = c .check .ensures .ranged;
     }
 

@@ -23,13 +23,15 @@ mul-entry-of : tie.Need-mul-entry-of
 mul-entry-of c = let after-found = c .before in
     let after-lookup = after-found .before .before in
     let start = after-lookup .before .before .before .before .before in
-    let h = lookup-low (now (start .args .entries)) (start .args .va) _ (start .pre .0) (sym (after-lookup .lookup .ensures) ∙ after-found .found .given .1) in omega (arith, h)
+    let h = lookup-low (now (start .args .entries)) (start .args .va) _ (start .pre .0)
+    (sym (after-lookup .lookup .ensures) ∙ after-found .found .given .1) in omega (arith, h)
 
 shared-slice-read-entry-of : tie.Need-shared-slice-read-entry-of
 shared-slice-read-entry-of c = let after-found = c .before .before in
     let after-lookup = after-found .before .before in
     let start = after-lookup .before .before .before .before .before in
-    let h = lookup-low (now (start .args .entries)) (start .args .va) _ (start .pre .0) (sym (after-lookup .lookup .ensures) ∙ after-found .found .given .1) in omega (arith, h, start .pre .0)
+    let h = lookup-low (now (start .args .entries)) (start .args .va) _ (start .pre .0)
+    (sym (after-lookup .lookup .ensures) ∙ after-found .found .given .1) in omega (arith, h, start .pre .0)
 
 entry-of-requires : tie.Need-entry-of-requires
 entry-of-requires c κs = search needs
@@ -67,7 +69,8 @@ returns-2 c = let after-walk = c .before in
     let start = after-mmu .before .before .before in
     let a = start .args in
     record {
-      same = walked (now (a .entries)) (a .va) (a .r) (physical (now (a .memory))) _ (sym (after-mmu .mmu .ensures) ∙ then1 .if1 .taken) (sym (after-enum-told .enum-told .given .1) ∙ after-lookup .lookup .ensures) (c .of-walk .ensures .same ∙ ap ofWalk (after-walk .walk .ensures .same));
+      same = walked (now (a .entries)) (a .va) (a .r) (physical (now (a .memory))) _ (sym (after-mmu .mmu .ensures) ∙ then1 .if1 .taken)
+          (sym (after-enum-told .enum-told .given .1) ∙ after-lookup .lookup .ensures) (c .of-walk .ensures .same ∙ ap ofWalk (after-walk .walk .ensures .same));
       ranged = c .of-walk .ensures .ranged;
     }
 

@@ -33,7 +33,9 @@ returns-2 c = let test = c .before in
 
 returns-3 : tie.Need-returns-3
 unfolding firstMet
-returns-3 c = let e : isWidth (c .before .before .args .a .width) ≡ false = sym (c .before .is-width .ensures) ∙ c .if1 .left in rw e
+returns-3 c =
+    let start = c .before .before in
+    let e : isWidth (start .args .a .width) ≡ false = sym (c .before .is-width .ensures) ∙ c .if1 .left in rw e
 
 pub access-refusal-spec : {M : Type 1} → statement M
 access-refusal-spec =

@@ -6,11 +6,11 @@ use Rattle.refusals.proofs.read_refusal.Tie as tie
 
 returns : tie.Need-returns
 unfolding firstMet
-returns c = rw (c .before .before .if1 .taken, le-leb _ _ (c .if2 .taken))
+returns c = let then1 = c .before .before in rw (then1 .if1 .taken, le-leb _ _ (c .if2 .taken))
 
 returns-2 : tie.Need-returns-2
 unfolding firstMet
-returns-2 c = rw (c .before .before .if1 .taken, lt-leb _ _ (c .if2 .left))
+returns-2 c = let then1 = c .before .before in rw (then1 .if1 .taken, lt-leb _ _ (c .if2 .left))
 
 returns-3 : tie.Need-returns-3
 unfolding firstMet

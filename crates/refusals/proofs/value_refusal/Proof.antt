@@ -61,7 +61,7 @@ returns-5 c = let after-is-listed = c .before in
 
 returns-6 : tie.Need-returns-6
 unfolding firstMet
-returns-6 c = rw (lt-leb _ _ (c .before .before .if1 .left), ne-eqb _ _ (c .if3 .left))
+returns-6 c = let else1 = c .before .before in rw (lt-leb _ _ (else1 .if1 .left), ne-eqb _ _ (c .if3 .left))
 
 pub value-refusal-spec : {M : Type 1} → statement M
 value-refusal-spec =

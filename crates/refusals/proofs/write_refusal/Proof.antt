@@ -22,7 +22,7 @@ returns-2 c = let then2 = c .before .before in
 
 returns-3 : tie.Need-returns-3
 unfolding firstMet
-returns-3 c = rw (c .before .before .if1 .taken, lt-leb _ _ (c .if2 .left))
+returns-3 c = let then1 = c .before .before in rw (then1 .if1 .taken, lt-leb _ _ (c .if2 .left))
 
 returns-4 : tie.Need-returns-4
 unfolding firstMet

@@ -39,7 +39,14 @@ returns-7 c = let else5 = c .before in
     let else3 = else4 .before in
     let else2 = else3 .before in
     let else1 = else2 .before in
-    rw (ne-eqb _ _ (else1 .if1 .left), ne-eqb _ _ (else2 .if2 .left), ne-eqb _ _ (else3 .if3 .left), ne-eqb _ _ (else4 .if4 .left), ne-eqb _ _ (else5 .if5 .left), ne-eqb _ _ (c .if6 .left))
+    rw (
+      ne-eqb _ _ (else1 .if1 .left),
+      ne-eqb _ _ (else2 .if2 .left),
+      ne-eqb _ _ (else3 .if3 .left),
+      ne-eqb _ _ (else4 .if4 .left),
+      ne-eqb _ _ (else5 .if5 .left),
+      ne-eqb _ _ (c .if6 .left),
+    )
 
 pub read-spec : {M : Type 1} → statement M
 read-spec =

@@ -8,8 +8,8 @@ zero-counts-requires c κs = search needs
 
 returns : tie.Need-returns
 returns c =
-    let b1 = c .before in
-    let a = b1 .args in λ m st. rw (c .zero-counts .ensures) (fresh-is (a .size) m st)
+    let start = c .before in
+    let a = start .args in λ m st. rw (c .zero-counts .ensures) (fresh-is (a .size) m st)
 
 pub fresh-spec : {M : Type 1} → statement M
 fresh-spec = tie.close (tie.spec zero-counts-requires returns)

@@ -27,12 +27,13 @@ same-length-3 c = search needs
 
 returns : tie.Need-returns
 returns c =
-    let b1 = c .before in let b2 = b1 .before in let b3 = b2 .before in let b4 = b3 .before in let b5 = b4 .before in let b6 = b5 .before in
-    let b7 = b6 .before in let b8 = b7 .before in let b9 = b8 .before in let b10 = b9 .before in let b11 = b10 .before in
-    let b12 = b11 .before in let b13 = b12 .before in let b14 = b13 .before in
-    let a = b14 .args in
+    let after-refuse-calls = c .before .before in let then1 = after-refuse-calls .before .before in let after-state-refusal = then1 .before in
+    let after-calls-held = after-state-refusal .before .before .before in
+    let start = after-calls-held .before .before .before .before .before .before in
+    let a = start .args in
     let m = (machineIn (now (a .memory)) (now (a .store)) (a .state) (a .cp15)) in
-    all-refused m _ (b5 .state-refusal .ensures) (b4 .if1 .taken) _ (now (a .answers)) _ _ (b2 .refuse-calls .ensures) ∙ sym (run-as m (now (a .calls)) (now (a .answers)) _ (b8 .calls-held .ensures))
+    all-refused m _ (after-state-refusal .state-refusal .ensures) (then1 .if1 .taken) _ (now (a .answers)) _ _
+    (after-refuse-calls .refuse-calls .ensures) ∙ sym (run-as m (now (a .calls)) (now (a .answers)) _ (after-calls-held .calls-held .ensures))
 
 run-served-requires : tie.Need-run-served-requires
 run-served-requires c κs = search needs

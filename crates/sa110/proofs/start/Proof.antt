@@ -15,18 +15,24 @@ fresh-requires c κs = search needs
 
 returns : tie.Need-returns
 returns c =
-    let b1 = c .before in let b2 = b1 .before in let b3 = b2 .before in let b4 = b3 .before in let b5 = b4 .before in let b6 = b5 .before in
-    let a = b6 .args in
-    rw (b3 .zero-cp15 .ensures) (start-served (now (a .memory)) (now (a .store)) _ _ (start-by (now (a .memory)) (now (a .store)) _ (b2 .lent-refusal .ensures)) (b1 .if1 .taken) (c .fresh .ensures (now (a .memory)) (now (a .store))))
+    let then1 = c .before in let after-lent-refusal = then1 .before in let after-zero-cp15 = after-lent-refusal .before in
+    let start = after-zero-cp15 .before .before .before in
+    let a = start .args in
+    rw (after-zero-cp15 .zero-cp15 .ensures) (start-served (now (a .memory)) (now (a .store)) _ _
+    (start-by (now (a .memory)) (now (a .store)) _ (after-lent-refusal .lent-refusal .ensures)) (then1 .if1 .taken)
+    (c .fresh .ensures (now (a .memory)) (now (a .store))))
 
 fresh-requires-2 : tie.Need-fresh-requires-2
 fresh-requires-2 c κs = search needs
 
 returns-2 : tie.Need-returns-2
 returns-2 c =
-    let b1 = c .before in let b2 = b1 .before in let b3 = b2 .before in let b4 = b3 .before in let b5 = b4 .before in let b6 = b5 .before in
-    let a = b6 .args in
-    rw (b3 .zero-cp15 .ensures) (start-refused (now (a .memory)) (now (a .store)) _ _ (start-by (now (a .memory)) (now (a .store)) _ (b2 .lent-refusal .ensures)) (b1 .if1 .left) (c .fresh2 .ensures (now (a .memory)) (now (a .store))))
+    let else1 = c .before in let after-lent-refusal = else1 .before in let after-zero-cp15 = after-lent-refusal .before in
+    let start = after-zero-cp15 .before .before .before in
+    let a = start .args in
+    rw (after-zero-cp15 .zero-cp15 .ensures) (start-refused (now (a .memory)) (now (a .store)) _ _
+    (start-by (now (a .memory)) (now (a .store)) _ (after-lent-refusal .lent-refusal .ensures)) (else1 .if1 .left)
+    (c .fresh2 .ensures (now (a .memory)) (now (a .store))))
 
 pub start-spec : {M : Type 1} → statement M
 start-spec =

@@ -52,7 +52,9 @@ returns c = let at-loop = c .before in
     let slots = start .args .t1 in
     let n : length slots ≡ 8 = search needs in
     let e : l .i ≡ 8 = omega arith in
-    toward-all (bytesOf slots) (replicate 8 (replicate 16 0)) (l .out) 8 (subst (λ (n : ℕ). Toward (bytesOf slots) (replicate 8 (replicate 16 0)) (l .out) n) e (l .inv .1)) refl (length-map slots (λ (s : SlotBytes). s .bytes) ∙ n)
+    toward-all (bytesOf slots) (replicate 8 (replicate 16 0)) (l .out) 8
+    (subst (λ (n : ℕ). Toward (bytesOf slots) (replicate 8 (replicate 16 0)) (l .out) n) e (l .inv .1)) refl
+    (length-map slots (λ (s : SlotBytes). s .bytes) ∙ n)
 
 pub unpacked-spec : {M : Type 1} → statement M
 unpacked-spec =

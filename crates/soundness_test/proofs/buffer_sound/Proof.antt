@@ -55,7 +55,8 @@ returns-2 c = let after-place-sound = c .before in
     let start = else1 .before .before in
     let a = start .args in
     let l = at-loop .loop in
-    sym (place-bad (a .n) (a .used) (now (a .words)) (now (a .bytes)) (start .pre .0) (start .pre .1) (else1 .if1 .left) (l .i) (omega arith) (sym (after-place-sound .place-sound .ensures) ∙ c .if2 .left))
+    sym (place-bad (a .n) (a .used) (now (a .words)) (now (a .bytes)) (start .pre .0) (start .pre .1) (else1 .if1 .left) (l .i) (omega arith)
+    (sym (after-place-sound .place-sound .ensures) ∙ c .if2 .left))
 
 returns-3 : tie.Need-returns-3 Inv-loop μ-loop
 returns-3 c = let at-loop = c .before in
@@ -64,7 +65,8 @@ returns-3 c = let at-loop = c .before in
     let a = start .args in
     let l = at-loop .loop in
     let e : l .i ≡ 8 = omega arith in
-    sym (places-held (a .n) (a .used) (now (a .words)) (now (a .bytes)) (start .pre .0) (start .pre .1) (else1 .if1 .left) (subst (λ (k : ℕ). Held (a .n) (a .used) (now (a .words)) (now (a .bytes)) k) e (l .inv .1)))
+    sym (places-held (a .n) (a .used) (now (a .words)) (now (a .bytes)) (start .pre .0) (start .pre .1) (else1 .if1 .left)
+    (subst (λ (k : ℕ). Held (a .n) (a .used) (now (a .words)) (now (a .bytes)) k) e (l .inv .1)))
 
 pub buffer-sound-spec : {M : Type 1} → statement M
 buffer-sound-spec =

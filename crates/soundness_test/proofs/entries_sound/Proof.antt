@@ -42,8 +42,11 @@ loop-again c = let after-entry-sound = c .before in
     let at-loop = after-entry-sound .before .before .before in
     let start = at-loop .before .before in
     let a = start .args in
-    let l = at-loop .loop in
-    (omega arith, sym (words-on entrySound entryOf emptyEntry entry-zero (now (a .entries)) (l .i) (omega arith) (sym (after-entry-sound .entry-sound .ensures) ∙ c .if1 .taken)) ∙ l .inv .1)
+    let l = at-loop .loop in (
+      omega arith,
+      sym (words-on entrySound entryOf emptyEntry entry-zero (now (a .entries)) (l .i) (omega arith)
+          (sym (after-entry-sound .entry-sound .ensures) ∙ c .if1 .taken)) ∙ l .inv .1,
+    )
 
 returns : tie.Need-returns Inv-loop μ-loop
 returns c = let after-entry-sound = c .before in
@@ -51,7 +54,8 @@ returns c = let after-entry-sound = c .before in
     let start = at-loop .before .before in
     let a = start .args in
     let l = at-loop .loop in
-    sym (words-no entrySound entryOf emptyEntry entry-zero (now (a .entries)) (l .i) (omega arith) (sym (after-entry-sound .entry-sound .ensures) ∙ c .if1 .left)) ∙ l .inv .1
+    sym (words-no entrySound entryOf emptyEntry entry-zero (now (a .entries)) (l .i) (omega arith)
+    (sym (after-entry-sound .entry-sound .ensures) ∙ c .if1 .left)) ∙ l .inv .1
 
 returns-2 : tie.Need-returns-2 Inv-loop μ-loop
 returns-2 c = let at-loop = c .before in

@@ -25,7 +25,8 @@ returns-3 c = let then3 = c .before in
     let else2 = after-base-sound .before in
     let else1 = else2 .before in
     let start = else1 .before in
-    let a = start .args in c .base-sound2 .ensures ∙ sym (range-physical (a .w) (omega arith) (else1 .if1 .left) (else2 .if2 .left) (sym (after-base-sound .base-sound .ensures) ∙ then3 .if3 .taken))
+    let a = start .args in c .base-sound2 .ensures ∙ sym
+    (range-physical (a .w) (omega arith) (else1 .if1 .left) (else2 .if2 .left) (sym (after-base-sound .base-sound .ensures) ∙ then3 .if3 .taken))
 
 returns-4 : tie.Need-returns-4
 returns-4 c = let after-base-sound = c .before in

@@ -12,8 +12,12 @@ is-listed-requires : tie.Need-is-listed-requires
 is-listed-requires c κs = search needs
 
 returns : tie.Need-returns
-returns c = let a = c .before .before .before .before .before .before .before .before .args in
-    sym (fsr-test (a .r) (sym (c .before .before .before .before .before .before .before .kept .ensures) ∙ c .before .before .before .before .before .if1 .taken) (sym (c .before .before .before .before .is-listed .ensures) ∙ c .before .before .before .if2 .taken) (c .before .if3 .taken) (omega arith) (omega arith) (omega arith))
+returns c =
+    let then2 = c .before .before .before in let after-is-listed = then2 .before in let then1 = after-is-listed .before in
+    let after-kept = then1 .before .before in let start = after-kept .before in
+    let a = start .args in
+    sym (fsr-test (a .r) (sym (after-kept .kept .ensures) ∙ then1 .if1 .taken) (sym (after-is-listed .is-listed .ensures) ∙ then2 .if2 .taken)
+    (c .before .if3 .taken) (omega arith) (omega arith) (omega (arith, start .good)))
 
 returns-2 : tie.Need-returns-2
 returns-2 c = let then2 = c .before .before in

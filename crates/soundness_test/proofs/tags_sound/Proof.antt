@@ -31,16 +31,16 @@ mul-keys-of : tie.Need-mul-keys-of Inv-loop μ-loop Inv-sets μ-sets
 mul-keys-of c = search needs
 
 keys-of-requires : tie.Need-keys-of-requires Inv-loop μ-loop Inv-sets μ-sets
-keys-of-requires c κs = (c .before .before .before .pre, omega arith)
+keys-of-requires c κs = let start = c .before .before .before in (start .pre, omega arith)
 
 loop-holds : tie.Need-loop-holds Inv-loop μ-loop Inv-sets μ-sets
-loop-holds c = (c .before .before .sets .inv .0, search needs, search needs, search needs, none-alone (c .keys-of .result) 0)
+loop-holds c = let at-sets = c .before .before in (at-sets .sets .inv .0, search needs, search needs, search needs, none-alone (c .keys-of .result) 0)
 
 slice-aggregate-keys-again : tie.Need-slice-aggregate-keys-again Inv-loop μ-loop Inv-sets μ-sets
 slice-aggregate-keys-again c = search needs
 
 keys-again-requires : tie.Need-keys-again-requires Inv-loop μ-loop Inv-sets μ-sets
-keys-again-requires c κs = (c .before .before .loop .inv .3, omega arith)
+keys-again-requires c κs = let at-loop = c .before .before in (at-loop .loop .inv .3, omega arith)
 
 add-p : tie.Need-add-p Inv-loop μ-loop Inv-sets μ-sets
 add-p c = search needs

@@ -11,10 +11,9 @@ enum-known-c c = search needs
 
 serve-requires : tie.Need-serve-requires
 serve-requires c κs =
-    let b1 = c .before in let b2 = b1 .before in let b3 = b2 .before in let b4 = b3 .before in let b5 = b4 .before in let b6 = b5 .before in
-    let b7 = b6 .before in let b8 = b7 .before in let b9 = b8 .before in let b10 = b9 .before in let b11 = b10 .before in
-    let b12 = b11 .before in let b13 = b12 .before in let b14 = b13 .before in let b15 = b14 .before in let b16 = b15 .before in
-    (b16 .pre .0, b16 .pre .1, b16 .pre .2, access-accepted (b8 .c .given .0 .0) (rw (b8 .c .given .1) at (b16 .pre .4)) .0)
+    let of-c = c .before .before .before .before .before .before .before .before in
+    let start = of-c .before .before .before .before .before .before .before .before in
+    (start .pre .0, start .pre .1, start .pre .2, access-accepted (of-c .c .given .0 .0) (rw (of-c .c .given .1) at (start .pre .4)) .0)
 
 enum-known-c-2 : tie.Need-enum-known-c-2
 enum-known-c-2 c = search needs
@@ -27,10 +26,12 @@ enum-known-c-3 c = search needs
 
 write-requires : tie.Need-write-requires
 write-requires c κs =
-    let b1 = c .before in let b2 = b1 .before in let b3 = b2 .before in let b4 = b3 .before in let b5 = b4 .before in let b6 = b5 .before in
-    let b7 = b6 .before in let b8 = b7 .before in let b9 = b8 .before in let b10 = b9 .before in let b11 = b10 .before in
-    let b12 = b11 .before in let b13 = b12 .before in let b14 = b13 .before in let b15 = b14 .before in
-    let a = b15 .args in (b15 .pre .1 .entries-long, clean-ready (a .s) (lists (now (a .memory)) (now (a .words)) (now (a .bytes)) (now (a .lines)) (now (a .pointers)) (now (a .store))) (b15 .pre .2))
+    let start = c .before .before .before .before .before .before .before .before .before .before .before .before .before .before .before in
+    let a = start .args in (
+      start .pre .1 .entries-long,
+      clean-ready (a .s)
+          (lists (now (a .memory)) (now (a .words)) (now (a .bytes)) (now (a .lines)) (now (a .pointers)) (now (a .store))) (start .pre .2),
+    )
 
 same-length : tie.Need-same-length
 same-length c = search needs
@@ -52,17 +53,18 @@ same-length-6 c = search needs
 
 returns : tie.Need-returns
 returns c =
-    let b1 = c .before in let b2 = b1 .before in let b3 = b2 .before in let b4 = b3 .before in let b5 = b4 .before in let b6 = b5 .before in
-    let b7 = b6 .before in let b8 = b7 .before in let b9 = b8 .before in let b10 = b9 .before in let b11 = b10 .before in
-    let b12 = b11 .before in let b13 = b12 .before in let b14 = b13 .before in let b15 = b14 .before in let b16 = b15 .before in
-    let b17 = b16 .before in let b18 = b17 .before in let b19 = b18 .before in let b20 = b19 .before in let b21 = b20 .before in
-    ((λ n. rw (b21 .c .given .1) (b12 .serve .ensures .0 n)), b12 .serve .ensures .1)
+    let after-serve = c .before .before .before .before .before .before .before .before .before .before .before .before in
+    let of-c = after-serve .before .before .before .before .before .before .before .before .before in
+    ((λ n. rw (of-c .c .given .1) (after-serve .serve .ensures .0 n)), after-serve .serve .ensures .1)
 
 returns-2 : tie.Need-returns-2
 returns-2 c =
-    let b1 = c .before in let b2 = b1 .before in let b3 = b2 .before in let b4 = b3 .before in let b5 = b4 .before in let b6 = b5 .before in
-    let b7 = b6 .before in let b8 = b7 .before in let b9 = b8 .before in let b10 = b9 .before in
-    let a = b10 .args in ((λ n. rw (b2 .c2 .given .1) (c .read .ensures (lists (now (a .memory)) (now (a .words)) (now (a .bytes)) (now (a .lines)) (now (a .pointers)) (now (a .store))) (now (a .entries)) n)), b10 .pre .2 .fits .bytes-long)
+    let of-c2 = c .before .before in let start = of-c2 .before .before .before .before .before .before .before .before in
+    let a = start .args in (
+      (λ n. rw (of-c2 .c2 .given .1) (c .read .ensures
+          (lists (now (a .memory)) (now (a .words)) (now (a .bytes)) (now (a .lines)) (now (a .pointers)) (now (a .store))) (now (a .entries)) n)),
+      start .pre .2 .fits .bytes-long,
+    )
 
 same-length-7 : tie.Need-same-length-7
 same-length-7 c = search needs
@@ -81,12 +83,10 @@ same-length-11 c = search needs
 
 returns-3 : tie.Need-returns-3
 returns-3 c =
-    let b1 = c .before in let b2 = b1 .before in let b3 = b2 .before in let b4 = b3 .before in let b5 = b4 .before in let b6 = b5 .before in
-    let b7 = b6 .before in let b8 = b7 .before in let b9 = b8 .before in let b10 = b9 .before in let b11 = b10 .before in
-    let b12 = b11 .before in let b13 = b12 .before in let b14 = b13 .before in let b15 = b14 .before in let b16 = b15 .before in
-    let b17 = b16 .before in let b18 = b17 .before in let b19 = b18 .before in let b20 = b19 .before in let b21 = b20 .before in
-    let b22 = b21 .before in let b23 = b22 .before in let b24 = b23 .before in
-    let a = b24 .args in ((λ n. rw (b16 .c3 .given .1) (b8 .write .ensures .0 (now (a .pointers)) n)), b8 .write .ensures .1)
+    let after-write = c .before .before .before .before .before .before .before .before in
+    let of-c3 = after-write .before .before .before .before .before .before .before .before in
+    let start = of-c3 .before .before .before .before .before .before .before .before in
+    let a = start .args in ((λ n. rw (of-c3 .c3 .given .1) (after-write .write .ensures .0 (now (a .pointers)) n)), after-write .write .ensures .1)
 
 pub done-spec : {M : Type 1} → statement M
 done-spec =

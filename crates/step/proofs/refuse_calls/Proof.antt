@@ -19,17 +19,18 @@ loop-holds c = let start = c .before .before in
     let a = start .args in refusing-start (now (a .calls)) (now (a .answers)) (a .n) (a .refusal) (start .pre)
 
 is-call-at-requires : tie.Need-is-call-at-requires Inv-loop μ-loop
-is-call-at-requires c κs = omega (arith, c .before .before .before .before .pre .calls-hold)
+is-call-at-requires c κs = let start = c .before .before .before .before in omega (arith, start .pre .calls-hold)
 
 same-length : tie.Need-same-length Inv-loop μ-loop
-same-length c = c .before .before .before .loop .inv .long
+same-length c = let at-loop = c .before .before .before in at-loop .loop .inv .long
 
 returns : tie.Need-returns Inv-loop μ-loop
 returns c = let after-is-call-at = c .before in
     let in-loop = after-is-call-at .before in
     let at-loop = in-loop .before in
     let start = at-loop .before .before .before in
-    let a = start .args in let l = at-loop .loop in refusing-stop (now (a .calls)) (now (a .answers)) (a .n) (a .refusal) (start .pre) (l .answers) (l .i) (l .inv) (in-loop .loop-test .taken) (sym (after-is-call-at .is-call-at .ensures) ∙ not-true _ (c .if1 .taken))
+    let a = start .args in let l = at-loop .loop in refusing-stop (now (a .calls)) (now (a .answers)) (a .n) (a .refusal) (start .pre) (l .answers)
+    (l .i) (l .inv) (in-loop .loop-test .taken) (sym (after-is-call-at .is-call-at .ensures) ∙ not-true _ (c .if1 .taken))
 
 code-requires : tie.Need-code-requires Inv-loop μ-loop
 code-requires c κs = search needs
@@ -44,7 +45,7 @@ slice-write-answers c = let at-loop = c .before .before .before .before in
     omega (arith, start .pre .answers-hold, at-loop .loop .inv .long)
 
 add-i : tie.Need-add-i Inv-loop μ-loop
-add-i c = omega (arith, c .before .before .before .before .before .before .before .fits .n)
+add-i c = let start = c .before .before .before .before .before .before .before in omega (arith, start .fits .n)
 
 loop-less : tie.Need-loop-less Inv-loop μ-loop
 loop-less c = search needs
@@ -55,7 +56,9 @@ loop-again c = let else1 = c .before in
     let in-loop = after-is-call-at .before in
     let at-loop = in-loop .before in
     let start = at-loop .before .before .before in
-    let a = start .args in let l = at-loop .loop in refusing-on (now (a .calls)) (now (a .answers)) (a .n) (a .refusal) (start .pre) (l .answers) (l .i) (l .inv) (c .code .result) (in-loop .loop-test .taken) (sym (after-is-call-at .is-call-at .ensures) ∙ not-false _ (else1 .if1 .left)) (c .code .ensures)
+    let a = start .args in let l = at-loop .loop in refusing-on (now (a .calls)) (now (a .answers)) (a .n) (a .refusal) (start .pre) (l .answers)
+    (l .i) (l .inv) (c .code .result) (in-loop .loop-test .taken) (sym (after-is-call-at .is-call-at .ensures) ∙ not-false _ (else1 .if1 .left))
+    (c .code .ensures)
 
 same-length-2 : tie.Need-same-length-2 Inv-loop μ-loop
 same-length-2 c = c .before .loop .inv .long
@@ -63,7 +66,8 @@ same-length-2 c = c .before .loop .inv .long
 returns-2 : tie.Need-returns-2 Inv-loop μ-loop
 returns-2 c = let at-loop = c .before in
     let start = at-loop .before .before .before in
-    let a = start .args in let l = at-loop .loop in refusing-end (now (a .calls)) (now (a .answers)) (a .n) (a .refusal) (start .pre) (l .answers) (l .i) (l .inv) (c .loop-test .left)
+    let a = start .args in let l = at-loop .loop in refusing-end (now (a .calls)) (now (a .answers)) (a .n) (a .refusal) (start .pre) (l .answers)
+    (l .i) (l .inv) (c .loop-test .left)
 
 pub refuse-calls-spec : {M : Type 1} → statement M
 refuse-calls-spec =

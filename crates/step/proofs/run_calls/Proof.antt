@@ -20,31 +20,34 @@ abbrev μ-loop : tie.MeasureT-loop
 
 loop-holds : tie.Need-loop-holds Inv-loop μ-loop
 loop-holds c = let start = c .before .before .before .before .before .before .before .before in
-    let a = start .args in going-start (lists (now (a .memory)) (now (a .words)) (now (a .bytes)) (now (a .lines)) (now (a .pointers)) (now (a .store))) (now (a .entries)) (now (a .calls)) (now (a .answers)) (a .first) (a .n) (start .pre .3) (start .pre .1) (start .pre .2) (start .pre .4)
+    let a = start .args in going-start (lists (now (a .memory)) (now (a .words)) (now (a .bytes)) (now (a .lines)) (now (a .pointers))
+    (now (a .store))) (now (a .entries)) (now (a .calls)) (now (a .answers)) (a .first) (a .n) (start .pre .3) (start .pre .1) (start .pre .2) (start .pre .4)
 
 is-call-at-requires : tie.Need-is-call-at-requires Inv-loop μ-loop
-is-call-at-requires c κs = omega (arith, c .before .before .before .before .before .before .before .before .before .before .pre .3 .calls-hold)
+is-call-at-requires c κs =
+    let start = c .before .before .before .before .before .before .before .before .before .before in
+    omega (arith, start .pre .3 .calls-hold)
 
 same-length : tie.Need-same-length Inv-loop μ-loop
-same-length c = c .before .before .before .loop .inv .same .memory
+same-length c = let at-loop = c .before .before .before in at-loop .loop .inv .same .memory
 
 same-length-2 : tie.Need-same-length-2 Inv-loop μ-loop
-same-length-2 c = c .before .before .before .loop .inv .same .words
+same-length-2 c = let at-loop = c .before .before .before in at-loop .loop .inv .same .words
 
 same-length-3 : tie.Need-same-length-3 Inv-loop μ-loop
-same-length-3 c = c .before .before .before .loop .inv .same .lines
+same-length-3 c = let at-loop = c .before .before .before in at-loop .loop .inv .same .lines
 
 same-length-4 : tie.Need-same-length-4 Inv-loop μ-loop
-same-length-4 c = c .before .before .before .loop .inv .same .pointers
+same-length-4 c = let at-loop = c .before .before .before in at-loop .loop .inv .same .pointers
 
 same-length-5 : tie.Need-same-length-5 Inv-loop μ-loop
-same-length-5 c = c .before .before .before .loop .inv .same .store
+same-length-5 c = let at-loop = c .before .before .before in at-loop .loop .inv .same .store
 
 same-length-6 : tie.Need-same-length-6 Inv-loop μ-loop
-same-length-6 c = c .before .before .before .loop .inv .same .entries
+same-length-6 c = let at-loop = c .before .before .before in at-loop .loop .inv .same .entries
 
 same-length-7 : tie.Need-same-length-7 Inv-loop μ-loop
-same-length-7 c = c .before .before .before .loop .inv .long
+same-length-7 c = let at-loop = c .before .before .before in at-loop .loop .inv .long
 
 returns : tie.Need-returns Inv-loop μ-loop
 returns c = let after-is-call-at = c .before in
@@ -53,29 +56,58 @@ returns c = let after-is-call-at = c .before in
     let start = at-loop .before .before .before .before .before .before .before .before .before in
     let a = start .args in
     let l = at-loop .loop in
-    going-stop (lists (now (a .memory)) (now (a .words)) (now (a .bytes)) (now (a .lines)) (now (a .pointers)) (now (a .store))) (now (a .entries)) (now (a .calls)) (now (a .answers)) (a .first) (a .n) (start .pre .3) (lists (l .memory) (l .words) (l .bytes) (l .lines) (l .pointers) (l .store)) (l .entries) (l .answers) (l .s) (l .i) (l .inv) (in-loop .loop-test .taken) (sym (after-is-call-at .is-call-at .ensures) ∙ not-true _ (c .if1 .taken))
+    going-stop (lists (now (a .memory)) (now (a .words)) (now (a .bytes)) (now (a .lines)) (now (a .pointers)) (now (a .store))) (now (a .entries))
+    (now (a .calls)) (now (a .answers)) (a .first) (a .n) (start .pre .3)
+    (lists (l .memory) (l .words) (l .bytes) (l .lines) (l .pointers) (l .store)) (l .entries) (l .answers) (l .s) (l .i) (l .inv)
+    (in-loop .loop-test .taken) (sym (after-is-call-at .is-call-at .ensures) ∙ not-true _ (c .if1 .taken))
 
 call-at-requires : tie.Need-call-at-requires Inv-loop μ-loop
-call-at-requires c κs = omega (arith, c .before .before .before .before .before .before .before .before .before .before .before .before .pre .3 .calls-hold)
+call-at-requires c κs =
+    let start = c .before .before .before .before .before .before .before .before .before .before .before .before in
+    omega (arith, start .pre .3 .calls-hold)
 
 step-requires : tie.Need-step-requires Inv-loop μ-loop
 step-requires c κs = let at-loop = c .before .before .before .before .before .before .before .before .before .before .before in
     let start = at-loop .before .before .before .before .before .before .before .before .before in
     let a = start .args in
-    let l = at-loop .loop in
-    (start .pre .0, l .inv .words-long, l .inv .bytes-long, serves-now (lists (now (a .memory)) (now (a .words)) (now (a .bytes)) (now (a .lines)) (now (a .pointers)) (now (a .store))) (now (a .entries)) (now (a .calls)) (now (a .answers)) (a .first) (a .n) (start .pre .3) (lists (l .memory) (l .words) (l .bytes) (l .lines) (l .pointers) (l .store)) (l .entries) (l .answers) (l .s) (l .i) (l .inv))
+    let l = at-loop .loop in (
+      start .pre .0,
+      l .inv .words-long,
+      l .inv .bytes-long,
+      serves-now
+          (lists (now (a .memory)) (now (a .words)) (now (a .bytes)) (now (a .lines)) (now (a .pointers)) (now (a .store))) (now (a .entries))
+          (now (a .calls)) (now (a .answers)) (a .first) (a .n) (start .pre .3)
+          (lists (l .memory) (l .words) (l .bytes) (l .lines) (l .pointers) (l .store)) (l .entries) (l .answers) (l .s) (l .i) (l .inv),
+    )
 
 code-requires : tie.Need-code-requires Inv-loop μ-loop
 code-requires c κs = search needs
 
 mul-answers : tie.Need-mul-answers Inv-loop μ-loop
-mul-answers c = omega (arith, c .before .before .before .before .before .before .before .before .before .before .before .before .before .before .before .before .before .before .before .before .before .before .before .before .before .before .before .before .before .before .before .before .before .before .good .1 .1 .1 .1 .1 .1 .1 .1 .1 .1 .0, c .before .before .before .before .before .before .before .before .before .before .before .before .before .before .before .before .before .before .before .before .before .before .before .before .before .before .before .before .before .before .before .before .before .before .pre .3 .answers-hold)
+mul-answers c =
+    let small = c .before .before .before .before .before .before .before .before .before .before .before .before .before .before .before .before
+    .before .before .before .before .before .before .before .before .before .before .before .before .before .before .before .before .before .before
+    .good .1 .1 .1 .1 .1 .1 .1 .1 .1 .1 .0 in
+    let hold = c .before .before .before .before .before .before .before .before .before .before .before .before .before .before .before .before
+    .before .before .before .before .before .before .before .before .before .before .before .before .before .before .before .before .before .before
+    .pre .3 .answers-hold in
+    omega (arith, small, hold)
 
 slice-write-answers : tie.Need-slice-write-answers Inv-loop μ-loop
-slice-write-answers c = omega (arith, c .before .before .before .before .before .before .before .before .before .before .before .before .before .before .before .before .before .before .before .before .before .before .before .before .before .before .before .before .before .before .before .before .before .before .pre .3 .answers-hold, c .before .before .before .before .before .before .before .before .before .before .before .before .before .before .before .before .before .before .before .before .before .before .before .before .before .loop .inv .long)
+slice-write-answers c =
+    let hold = c .before .before .before .before .before .before .before .before .before .before .before .before .before .before .before .before
+    .before .before .before .before .before .before .before .before .before .before .before .before .before .before .before .before .before .before
+    .pre .3 .answers-hold in
+    let long = c .before .before .before .before .before .before .before .before .before .before .before .before .before .before .before .before
+    .before .before .before .before .before .before .before .before .before .loop .inv .long in
+    omega (arith, hold, long)
 
 add-i : tie.Need-add-i Inv-loop μ-loop
-add-i c = omega (arith, c .before .before .before .before .before .before .before .before .before .before .before .before .before .before .before .before .before .before .before .before .before .before .before .before .before .before .before .before .before .before .before .before .before .before .before .fits .n)
+add-i c =
+    let small = c .before .before .before .before .before .before .before .before .before .before .before .before .before .before .before .before
+    .before .before .before .before .before .before .before .before .before .before .before .before .before .before .before .before .before .before
+    .before .fits .n in
+    omega (arith, small)
 
 loop-less : tie.Need-loop-less Inv-loop μ-loop
 loop-less c = search needs
@@ -93,9 +125,24 @@ loop-again c = let after-code = c .before in
     let a = start .args in
     let l = at-loop .loop in
     let st = after-step .step in
-    let k : Lists = (lists (st .last .1 .0) (st .last .1 .1 .0) (st .last .1 .1 .1 .0) (st .last .1 .1 .1 .1 .0) (st .last .1 .1 .1 .1 .1 .0) (st .last .1 .1 .1 .1 .1 .1 .0)) in
-    let y : SameLengths (lists (l .memory) (l .words) (l .bytes) (l .lines) (l .pointers) (l .store)) k (l .entries) (st .last .1 .1 .1 .1 .1 .1 .1 .0) = record { memory = st .kept .1 .0; words = st .kept .1 .1 .0; lines = st .kept .1 .1 .1 .1 .0; pointers = st .kept .1 .1 .1 .1 .1 .0; store = st .kept .1 .1 .1 .1 .1 .1 .0; entries = st .kept .1 .1 .1 .1 .1 .1 .1 .0 } in
-    going-on (lists (now (a .memory)) (now (a .words)) (now (a .bytes)) (now (a .lines)) (now (a .pointers)) (now (a .store))) (now (a .entries)) (now (a .calls)) (now (a .answers)) (a .first) (a .n) (start .pre .3) (lists (l .memory) (l .words) (l .bytes) (l .lines) (l .pointers) (l .store)) (l .entries) (l .answers) (l .s) (l .i) (l .inv) k (st .last .1 .1 .1 .1 .1 .1 .1 .0) (st .result) (after-call-at .call-at .result) (after-code .code .result) (in-loop .loop-test .taken) (sym (after-is-call-at .is-call-at .ensures) ∙ not-false _ (else1 .if1 .left)) (after-call-at .call-at .ensures) (numbers-of _ _ _ _ _ (omega (arith, after-shared-slice-known .shared-slice-known .given (l .i * 5 + 3))) (omega (arith, after-shared-slice-known .shared-slice-known .given (l .i * 5 + 4)))) (st .ensures .0) y (st .ensures .1) (after-code .code .ensures)
+    let k : Lists = (lists (st .last .1 .0) (st .last .1 .1 .0) (st .last .1 .1 .1 .0) (st .last .1 .1 .1 .1 .0) (st .last .1 .1 .1 .1 .1 .0)
+    (st .last .1 .1 .1 .1 .1 .1 .0)) in
+    let y : SameLengths (lists (l .memory) (l .words) (l .bytes) (l .lines) (l .pointers) (l .store)) k (l .entries)
+    (st .last .1 .1 .1 .1 .1 .1 .1 .0) = record {
+      memory = st .kept .1 .0;
+      words = st .kept .1 .1 .0;
+      lines = st .kept .1 .1 .1 .1 .0;
+      pointers = st .kept .1 .1 .1 .1 .1 .0;
+      store = st .kept .1 .1 .1 .1 .1 .1 .0;
+      entries = st .kept .1 .1 .1 .1 .1 .1 .1 .0;
+    } in
+    going-on (lists (now (a .memory)) (now (a .words)) (now (a .bytes)) (now (a .lines)) (now (a .pointers)) (now (a .store))) (now (a .entries))
+    (now (a .calls)) (now (a .answers)) (a .first) (a .n) (start .pre .3)
+    (lists (l .memory) (l .words) (l .bytes) (l .lines) (l .pointers) (l .store)) (l .entries) (l .answers) (l .s) (l .i) (l .inv) k
+    (st .last .1 .1 .1 .1 .1 .1 .1 .0) (st .result) (after-call-at .call-at .result) (after-code .code .result) (in-loop .loop-test .taken)
+    (sym (after-is-call-at .is-call-at .ensures) ∙ not-false _ (else1 .if1 .left)) (after-call-at .call-at .ensures)
+    (numbers-of _ _ _ _ _ (omega (arith, after-shared-slice-known .shared-slice-known .given (l .i * 5 + 3)))
+    (omega (arith, after-shared-slice-known .shared-slice-known .given (l .i * 5 + 4)))) (st .ensures .0) y (st .ensures .1) (after-code .code .ensures)
 
 same-length-8 : tie.Need-same-length-8 Inv-loop μ-loop
 same-length-8 c = c .before .loop .inv .same .memory
@@ -123,7 +170,9 @@ returns-2 c = let at-loop = c .before in
     let start = at-loop .before .before .before .before .before .before .before .before .before in
     let a = start .args in
     let l = at-loop .loop in
-    going-end (lists (now (a .memory)) (now (a .words)) (now (a .bytes)) (now (a .lines)) (now (a .pointers)) (now (a .store))) (now (a .entries)) (now (a .calls)) (now (a .answers)) (a .first) (a .n) (start .pre .3) (lists (l .memory) (l .words) (l .bytes) (l .lines) (l .pointers) (l .store)) (l .entries) (l .answers) (l .s) (l .i) (l .inv) (c .loop-test .left)
+    going-end (lists (now (a .memory)) (now (a .words)) (now (a .bytes)) (now (a .lines)) (now (a .pointers)) (now (a .store))) (now (a .entries))
+    (now (a .calls)) (now (a .answers)) (a .first) (a .n) (start .pre .3)
+    (lists (l .memory) (l .words) (l .bytes) (l .lines) (l .pointers) (l .store)) (l .entries) (l .answers) (l .s) (l .i) (l .inv) (c .loop-test .left)
 
 pub run-calls-spec : {M : Type 1} → statement M
 run-calls-spec =

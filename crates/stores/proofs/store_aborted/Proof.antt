@@ -15,9 +15,9 @@ stored-requires c κs = search needs
 
 returns : tie.Need-returns
 returns c =
-    let b1 = c .before in let b2 = b1 .before in let b3 = b2 .before in let b4 = b3 .before in let b5 = b4 .before in
-    let a = b5 .args in
-    let f : buffers (a .s .cp15 .registers) (a .p) ≡ true = sym (b2 .buffers .ensures) ∙ b1 .if1 .taken in
+    let then1 = c .before in let after-buffers = then1 .before in let start = after-buffers .before .before .before in
+    let a = start .args in
+    let f : buffers (a .s .cp15 .registers) (a .p) ≡ true = sym (after-buffers .buffers .ensures) ∙ then1 .if1 .taken in
     λ l es n v h. rw (c .stored .ensures, miss-dropped (machineOf l es (a .s) n) (a .a) v (a .p) h f)
 
 other-status-requires : tie.Need-other-status-requires
@@ -28,10 +28,11 @@ faulted-requires c κs = search needs
 
 returns-2 : tie.Need-returns-2
 returns-2 c =
-    let b1 = c .before in let b2 = b1 .before in let b3 = b2 .before in let b4 = b3 .before in let b5 = b4 .before in let b6 = b5 .before in
-    let a = b6 .args in
-    let f : buffers (a .s .cp15 .registers) (a .p) ≡ false = sym (b3 .buffers .ensures) ∙ b2 .if1 .left in
-    λ l es n v h. rw (c .faulted .ensures l es n, b1 .other-status .ensures, miss-faults (machineOf l es (a .s) n) (a .a) v (a .p) h f)
+    let after-other-status = c .before in let else1 = after-other-status .before in let after-buffers = else1 .before in
+    let start = after-buffers .before .before .before in
+    let a = start .args in
+    let f : buffers (a .s .cp15 .registers) (a .p) ≡ false = sym (after-buffers .buffers .ensures) ∙ else1 .if1 .left in
+    λ l es n v h. rw (c .faulted .ensures l es n, after-other-status .other-status .ensures, miss-faults (machineOf l es (a .s) n) (a .a) v (a .p) h f)
 
 pub store-aborted-spec : {M : Type 1} → statement M
 store-aborted-spec =

@@ -13,20 +13,20 @@ aborts-requires c κs = search needs
 
 store-aborted-requires : tie.Need-store-aborted-requires
 store-aborted-requires c κs =
-    let b1 = c .before in let b2 = b1 .before in let b3 = b2 .before in let b4 = b3 .before in let b5 = b4 .before in let b6 = b5 .before in
-    b6 .pre .3 .domain
+    let start = c .before .before .before .before .before .before in
+    start .pre .3 .domain
 
 same-length : tie.Need-same-length
 same-length c = search needs
 
 returns : tie.Need-returns
 returns c =
-    let b1 = c .before in let b2 = b1 .before in let b3 = b2 .before in let b4 = b3 .before in let b5 = b4 .before in let b6 = b5 .before in
-    let b7 = b6 .before in
-    let a = b7 .args in
+    let then1 = c .before in let after-aborts = then1 .before in let start = after-aborts .before .before .before .before .before in
+    let a = start .args in
     λ ls ps st. record {
-      same = λ es n. c .store-aborted .ensures (lists (now (a .memory)) (now (a .words)) (now (a .bytes)) ls ps st) es n (a .v) (sym (b2 .aborts .ensures) ∙ b1 .if1 .taken);
-      bytes-long = b7 .pre .0 .bytes-long;
+      same = λ es n. c .store-aborted .ensures (lists (now (a .memory)) (now (a .words)) (now (a .bytes)) ls ps st) es n (a .v)
+          (sym (after-aborts .aborts .ensures) ∙ then1 .if1 .taken);
+      bytes-long = start .pre .0 .bytes-long;
     }
 
 buffers-requires : tie.Need-buffers-requires
@@ -34,9 +34,9 @@ buffers-requires c κs = search needs
 
 store-buffered-requires : tie.Need-store-buffered-requires
 store-buffered-requires c κs =
-    let b1 = c .before in let b2 = b1 .before in let b3 = b2 .before in let b4 = b3 .before in let b5 = b4 .before in let b6 = b5 .before in
-    let b7 = b6 .before in let b8 = b7 .before in let b9 = b8 .before in let b10 = b9 .before in let b11 = b10 .before in
-    (b11 .pre .0, b11 .pre .1, b11 .pre .2, b11 .pre .3, sym (b6 .aborts .ensures) ∙ b5 .if1 .left)
+    let else1 = c .before .before .before .before .before in let after-aborts = else1 .before in
+    let start = after-aborts .before .before .before .before .before in
+    (start .pre .0, start .pre .1, start .pre .2, start .pre .3, sym (after-aborts .aborts .ensures) ∙ else1 .if1 .left)
 
 same-length-2 : tie.Need-same-length-2
 same-length-2 c = search needs
@@ -46,21 +46,21 @@ same-length-3 c = search needs
 
 returns-2 : tie.Need-returns-2
 returns-2 c =
-    let b1 = c .before in let b2 = b1 .before in let b3 = b2 .before in let b4 = b3 .before in let b5 = b4 .before in let b6 = b5 .before in
-    let b7 = b6 .before in let b8 = b7 .before in let b9 = b8 .before in let b10 = b9 .before in let b11 = b10 .before in
-    let b12 = b11 .before in let b13 = b12 .before in let b14 = b13 .before in let b15 = b14 .before in let b16 = b15 .before in
-    let a = b16 .args in
-    let f : buffers (a .s .cp15 .registers) (a .p) ≡ true = sym (b9 .buffers .ensures) ∙ b8 .if2 .taken in
+    let after-store-buffered = c .before .before .before .before in let then2 = after-store-buffered .before .before .before .before in
+    let after-buffers = then2 .before in let start = after-buffers .before .before .before .before .before .before .before in
+    let a = start .args in
+    let f : buffers (a .s .cp15 .registers) (a .p) ≡ true = sym (after-buffers .buffers .ensures) ∙ then2 .if2 .taken in
     λ ls ps st. record {
-      same = λ es n. b4 .store-buffered .ensures ls ps st .same es n ∙ sym (miss-buffered (machineOf (lists (now (a .memory)) (now (a .words)) (now (a .bytes)) ls ps st) es (a .s) n) (a .a) (a .v) (a .p) f);
-      bytes-long = b4 .store-buffered .ensures ls ps st .bytes-long;
+      same = λ es n. after-store-buffered .store-buffered .ensures ls ps st .same es n
+          ∙ sym (miss-buffered (machineOf (lists (now (a .memory)) (now (a .words)) (now (a .bytes)) ls ps st) es (a .s) n) (a .a) (a .v) (a .p) f);
+      bytes-long = after-store-buffered .store-buffered .ensures ls ps st .bytes-long;
     }
 
 store-direct-requires : tie.Need-store-direct-requires
 store-direct-requires c κs =
-    let b1 = c .before in let b2 = b1 .before in let b3 = b2 .before in let b4 = b3 .before in let b5 = b4 .before in let b6 = b5 .before in
-    let b7 = b6 .before in let b8 = b7 .before in let b9 = b8 .before in let b10 = b9 .before in let b11 = b10 .before in
-    (b11 .pre .0, b11 .pre .1, b11 .pre .2, b11 .pre .3, sym (b6 .aborts .ensures) ∙ b5 .if1 .left)
+    let else1 = c .before .before .before .before .before in let after-aborts = else1 .before in
+    let start = after-aborts .before .before .before .before .before in
+    (start .pre .0, start .pre .1, start .pre .2, start .pre .3, sym (after-aborts .aborts .ensures) ∙ else1 .if1 .left)
 
 same-length-4 : tie.Need-same-length-4
 same-length-4 c = search needs
@@ -70,14 +70,16 @@ same-length-5 c = search needs
 
 returns-3 : tie.Need-returns-3
 returns-3 c =
-    let b1 = c .before in let b2 = b1 .before in let b3 = b2 .before in let b4 = b3 .before in let b5 = b4 .before in let b6 = b5 .before in
-    let b7 = b6 .before in let b8 = b7 .before in let b9 = b8 .before in let b10 = b9 .before in let b11 = b10 .before in
-    let b12 = b11 .before in let b13 = b12 .before in let b14 = b13 .before in let b15 = b14 .before in let b16 = b15 .before in
-    let a = b16 .args in
-    let f : buffers (a .s .cp15 .registers) (a .p) ≡ false = sym (b9 .buffers .ensures) ∙ b8 .if2 .left in
+    let after-store-direct = c .before .before .before .before in let else2 = after-store-direct .before .before .before .before in
+    let after-buffers = else2 .before in let else1 = after-buffers .before in let after-aborts = else1 .before in
+    let start = after-aborts .before .before .before .before .before in
+    let a = start .args in
+    let f : buffers (a .s .cp15 .registers) (a .p) ≡ false = sym (after-buffers .buffers .ensures) ∙ else2 .if2 .left in
     λ ls ps st. record {
-      same = λ es n. b4 .store-direct .ensures ls ps st .same es n ∙ sym (miss-direct (machineOf (lists (now (a .memory)) (now (a .words)) (now (a .bytes)) ls ps st) es (a .s) n) (a .a) (a .v) (a .p) (sym (b11 .aborts .ensures) ∙ b10 .if1 .left) f);
-      bytes-long = b4 .store-direct .ensures ls ps st .bytes-long;
+      same = λ es n. after-store-direct .store-direct .ensures ls ps st .same es n
+          ∙ sym (miss-direct (machineOf (lists (now (a .memory)) (now (a .words)) (now (a .bytes)) ls ps st) es (a .s) n) (a .a) (a .v) (a .p)
+          (sym (after-aborts .aborts .ensures) ∙ else1 .if1 .left) f);
+      bytes-long = after-store-direct .store-direct .ensures ls ps st .bytes-long;
     }
 
 pub store-miss-spec : {M : Type 1} → statement M

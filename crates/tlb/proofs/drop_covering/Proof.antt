@@ -45,8 +45,12 @@ loop-again : tie.Need-loop-again Inv-loop μ-loop
 loop-again c = let at-loop = c .before .before .before in
     let start = at-loop .before .before in
     let l = at-loop .loop in
-    let a = start .args in
-    (omega arith, simp length-set (l .inv .1), entries-step (keptOf (a .va)) (now (a .entries)) (l .entries) (l .i) (c .kept .result) (l .inv .2) (omega arith) (c .kept .ensures))
+    let a = start .args in (
+      omega arith,
+      simp length-set (l .inv .1),
+      entries-step (keptOf (a .va)) (now (a .entries)) (l .entries) (l .i) (c .kept .result) (l .inv .2)
+          (omega arith) (c .kept .ensures),
+    )
 
 same-length : tie.Need-same-length Inv-loop μ-loop
 same-length c = search needs

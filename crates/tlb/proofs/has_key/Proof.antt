@@ -27,7 +27,8 @@ returns-4 c = let else2 = c .before .before in
     let else1 = else2 .before .before in
     let after-key = else1 .before .before in
     let start = after-key .before in
-    let a = start .args in let f = after-key .key .ensures in λ va e s. sym (key-none va (a .w) (a .k) e s (λ h. else1 .if1 .left (f ∙ h)) (λ h. c .if3 .left (f ∙ h)) (λ h. else2 .if2 .left (f ∙ h)))
+    let a = start .args in let f = after-key .key .ensures in λ va e s. sym
+    (key-none va (a .w) (a .k) e s (λ h. else1 .if1 .left (f ∙ h)) (λ h. c .if3 .left (f ∙ h)) (λ h. else2 .if2 .left (f ∙ h)))
 
 pub has-key-spec : {M : Type 1} → statement M
 has-key-spec = tie.close (tie.spec key-requires returns returns-2 returns-3 returns-4)

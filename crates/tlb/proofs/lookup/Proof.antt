@@ -48,8 +48,11 @@ loop-again c = let after-has-key = c .before in
     let at-loop = after-has-key .before .before .before in
     let start = at-loop .before .before .before in
     let a = start .args in
-    let l = at-loop .loop in
-    (omega arith, λ va e. sym (lookup-on (now (a .entries)) va (l .i) (omega arith) (sym (after-has-key .has-key .ensures va e (start .pre .1 (l .i) (omega arith) .size)) ∙ c .if2 .left)) ∙ l .inv .1 va e)
+    let l = at-loop .loop in (
+      omega arith,
+      λ va e. sym (lookup-on (now (a .entries)) va (l .i) (omega arith)
+          (sym (after-has-key .has-key .ensures va e (start .pre .1 (l .i) (omega arith) .size)) ∙ c .if2 .left)) ∙ l .inv .1 va e,
+    )
 
 returns : tie.Need-returns Inv-loop μ-loop
 returns c = let at-loop = c .before in
@@ -67,7 +70,8 @@ returns-2 c = let after-has-key = c .before in
     let a = start .args in
     let l = at-loop .loop in
     let e = after-keys-of .keys-of .ensures in
-    sym (lookup-hit (now (a .entries)) (a .va) (l .i) (omega arith) (sym (after-has-key .has-key .ensures (a .va) e (start .pre .1 (l .i) (omega arith) .size)) ∙ c .if2 .taken)) ∙ l .inv .1 (a .va) e
+    sym (lookup-hit (now (a .entries)) (a .va) (l .i) (omega arith) (sym
+    (after-has-key .has-key .ensures (a .va) e (start .pre .1 (l .i) (omega arith) .size)) ∙ c .if2 .taken)) ∙ l .inv .1 (a .va) e
 
 pub lookup-spec : {M : Type 1} → statement M
 lookup-spec =

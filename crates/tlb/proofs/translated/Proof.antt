@@ -25,7 +25,7 @@ returns-2 c = let then2 = c .before .before in
     sym (translated-large (start .args .e) (start .args .va) (then2 .if2 .taken))
 
 add-t9 : tie.Need-add-t9
-add-t9 c = omega (arith, c .before .before .before .before .before .before .pre)
+add-t9 c = let start = c .before .before .before .before .before .before in omega (arith, start .pre)
 
 returns-3 : tie.Need-returns-3
 returns-3 c = let else2 = c .before .before in

@@ -45,13 +45,19 @@ returns-2 : tie.Need-returns-2
 returns-2 c = let after-m = c .before .before in
     let after-mapped-by = after-m .before .before in
     let start = after-mapped-by .before in
-    let a = start .args in let k = checked-in (a .r) (a .a) (a .t) _ (after-mapped-by .mapped-by .ensures) in record { same = c .check-by .ensures .same ∙ (rw (after-m .m .given .1) at k); ranged = c .check-by .ensures .ranged }
+    let a = start .args in let k = checked-in (a .r) (a .a) (a .t) _ (after-mapped-by .mapped-by .ensures) in
+    record { same = c .check-by .ensures .same ∙ (rw (after-m .m .given .1) at k); ranged = c .check-by .ensures .ranged }
 
 returns-3 : tie.Need-returns-3
 returns-3 c = let after-m2 = c .before in
     let after-mapped-by = after-m2 .before .before in
     let start = after-mapped-by .before in
-    let a = start .args in let k = checked-in (a .r) (a .a) (a .t) _ (after-mapped-by .mapped-by .ensures) in record { same = rw (after-m2 .m2 .given .1) at k; ranged = rw (after-m2 .m2 .given .1) at (ranged-in (a .t) _ (after-mapped-by .mapped-by .ensures) (start .pre .1)) }
+    let a = start .args in let k = checked-in (a .r) (a .a) (a .t) _ (after-mapped-by .mapped-by .ensures) in
+    record {
+      same = rw (after-m2 .m2 .given .1) at k;
+      ranged = rw (after-m2 .m2 .given .1) at
+          (ranged-in (a .t) _ (after-mapped-by .mapped-by .ensures) (start .pre .1));
+    }
 
 pub check-spec : {M : Type 1} → statement M
 check-spec =

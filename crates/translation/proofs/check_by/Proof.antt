@@ -28,7 +28,8 @@ returns c = let right = c .before in
     let ap = store .before in
     let value = ap .before in
     let cleared = value .before in
-    rw (← cleared .cleared .ensures, ← value .domain-value .ensures .0, ← ap .ap-of .ensures .0, ← store .is-store .ensures, ← right .right .ensures) (c .judged .ensures)
+    rw (← cleared .cleared .ensures, ← value .domain-value .ensures .0, ← ap .ap-of .ensures .0, ← store .is-store .ensures, ← right .right .ensures)
+    (c .judged .ensures)
 
 pub check-by-spec : {M : Type 1} → statement M
 check-by-spec =

@@ -12,10 +12,12 @@ is-misaligned-requires : tie.Need-is-misaligned-requires
 is-misaligned-requires c κs = search needs
 
 returns : tie.Need-returns
-returns c = let e : alignment (c .before .before .before .args .r) ≡ true = sym (c .before .before .alignment .ensures) ∙ c .before .if1 .taken in rw e (c .is-misaligned .ensures)
+returns c =
+    let after-alignment = c .before .before in let start = after-alignment .before in
+    let e : alignment (start .args .r) ≡ true = sym (after-alignment .alignment .ensures) ∙ c .before .if1 .taken in rw e (c .is-misaligned .ensures)
 
 returns-2 : tie.Need-returns-2
-returns-2 c = let e : alignment (c .before .before .args .r) ≡ false = sym (c .before .alignment .ensures) ∙ c .if1 .left in rw e
+returns-2 c = let start = c .before .before in let e : alignment (start .args .r) ≡ false = sym (c .before .alignment .ensures) ∙ c .if1 .left in rw e
 
 pub faults-alignment-spec : {M : Type 1} → statement M
 faults-alignment-spec =

@@ -19,10 +19,10 @@ returns c = let then1 = c .before in
     }
 
 returns-2 : tie.Need-returns-2
-returns-2 c = record { same = rw (c .before .before .if2 .taken, ne-eqb _ _ (c .if3 .taken)); ranged = search needs }
+returns-2 c = let then2 = c .before .before in record { same = rw (then2 .if2 .taken, ne-eqb _ _ (c .if3 .taken)); ranged = search needs }
 
 returns-3 : tie.Need-returns-3
-returns-3 c = record { same = rw (c .before .before .if2 .taken, c .if3 .left); ranged = search needs }
+returns-3 c = let then2 = c .before .before in record { same = rw (then2 .if2 .taken, c .if3 .left); ranged = search needs }
 
 returns-4 : tie.Need-returns-4
 returns-4 c = let else2 = c .before .before in

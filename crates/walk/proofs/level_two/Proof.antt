@@ -15,7 +15,10 @@ returns : tie.Need-returns
 returns c = let then1 = c .before in
     let start = then1 .before in
     let a = start .args in
-    record { same = sym (second-large _ (a .va) _ (then1 .if1 .taken)); ranged = large-ranged (a .domain) (a .w) (a .va) (search needs) (search needs) (search needs) }
+    record {
+      same = sym (second-large _ (a .va) _ (then1 .if1 .taken));
+      ranged = large-ranged (a .domain) (a .w) (a .va) (search needs) (search needs) (search needs);
+    }
 
 mul-t20 : tie.Need-mul-t20
 mul-t20 c = search needs
@@ -27,7 +30,10 @@ returns-2 : tie.Need-returns-2
 returns-2 c = let then2 = c .before in
     let start = then2 .before .before in
     let a = start .args in
-    record { same = sym (second-small _ (a .va) _ (then2 .if2 .taken)); ranged = small-ranged (a .domain) (a .w) (a .va) (search needs) (search needs) (search needs) }
+    record {
+      same = sym (second-small _ (a .va) _ (then2 .if2 .taken));
+      ranged = small-ranged (a .domain) (a .w) (a .va) (search needs) (search needs) (search needs);
+    }
 
 returns-3 : tie.Need-returns-3
 returns-3 c = let else1 = c .before in

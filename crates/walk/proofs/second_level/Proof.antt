@@ -31,7 +31,9 @@ returns c = let after-d = c .before .before in
 
 returns-2 : tie.Need-returns-2
 unfolding second
-returns-2 c = record { same = rw (← c .before .before .descriptor-of .ensures, c .enum-told .given .1); ranged = search needs }
+returns-2 c =
+    let after-descriptor-of = c .before .before in
+    record { same = rw (← after-descriptor-of .descriptor-of .ensures, c .enum-told .given .1); ranged = search needs }
 
 pub second-level-spec : {M : Type 1} → statement M
 second-level-spec =

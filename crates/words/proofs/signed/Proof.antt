@@ -13,7 +13,7 @@ returns : tie.Need-returns
 returns c = rw (c .before .if1 .taken) (toZ-ofZ (search needs) ∙ c .signed-word .ensures)
 
 signed-half-requires : tie.Need-signed-half-requires
-signed-half-requires c κs = omega (arith, rw (c .if2 .taken) at (c .before .before .pre .1))
+signed-half-requires c κs = let start = c .before .before in omega (arith, rw (c .if2 .taken) at (start .pre .1))
 
 returns-2 : tie.Need-returns-2
 returns-2 c = rw (c .before .if2 .taken) (toZ-ofZ (search needs) ∙ c .signed-half .ensures)

@@ -51,7 +51,13 @@ returns c = let after-byte3 = c .before in
     let start = after-byte .before .before in
     let a = start .args in
     record {
-      value = rw (four (now (a .bytes)) (a .at), c .byte4 .ensures .0, after-byte3 .byte3 .ensures .0, after-byte2 .byte2 .ensures .0, after-byte .byte .ensures .0);
+      value = rw (
+        four (now (a .bytes)) (a .at),
+        c .byte4 .ensures .0,
+        after-byte3 .byte3 .ensures .0,
+        after-byte2 .byte2 .ensures .0,
+        after-byte .byte .ensures .0,
+      );
       fits = omega arith;
     }
 
