@@ -21,7 +21,7 @@ use values::VirtualAddress;
 
 // A register read.
 pub fn read(s: Scalars, t: Transfer) -> Outcome
-    requires { ⌜ s .cp15 .registers .control < 8192 ⌝ }
+    requires { ⌜ s .cp15 .registers .control < 0x2000 ⌝ }
     ensures { λ r. ⌜ ((l : Lists) (entries : List ℕ) (size : ℕ) → steppedOf l entries size r ≡ spec.read (machineOf l entries s size) t) ⌝ }
 {
     let r = s.cp15.registers;

@@ -195,8 +195,8 @@ fn print_access(kind: u32, width: u32, a: u32, v: u32) {
 
 // An answer of a run: kind × 2^32 + value.
 fn print_code(code: u64) {
-    let kind = code / 0x100000000;
-    let value = (code % 0x100000000) as u32;
+    let kind = code / trace::KIND_UNIT;
+    let value = (code % trace::KIND_UNIT) as u32;
     if kind == 0 {
         print(b"  value ");
         print_hex(value);

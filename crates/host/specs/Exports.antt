@@ -26,7 +26,7 @@ mappingCode (Failed s d) = 2 * (d * 16 + statusOf s)
 
 -- the walk by a table base of which bits 31 to 14 count
 abbrev pub walkCode : List ℕ → ℕ → ℕ → ℕ
-walkCode memory base va = mappingCode (walk (physical memory) (base / 16384 * 16384) (record { 0 = va }))
+walkCode memory base va = mappingCode (walk (physical memory) (base / 0x4000 * 0x4000) (record { 0 = va }))
 
 -- what a run of the plain machine leaves
 abbrev pub plainRanOf : List ℕ → List ℕ → PlainRan → PlainLeft

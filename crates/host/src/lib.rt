@@ -45,7 +45,7 @@ fn mapping_code(m: Mapping) -> u64
 pub extern "C" fn sa110_walk(memory: &[u8], base: u32, va: u32) -> u64
     ensures { λ r. ⌜ r ≡ spec.walkCode (now (memory .entry)) base va ⌝ }
 {
-    let m = walk::walk(memory, base / 16384 * 16384, VirtualAddress(va));
+    let m = walk::walk(memory, base / 0x4000 * 0x4000, VirtualAddress(va));
     mapping_code(m)
 }
 

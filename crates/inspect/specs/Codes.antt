@@ -1,5 +1,6 @@
 -- What a look shows, as a number.
 use Prim.Native.Nat.{ℕ, _+_, _*_}
+use Rattle.trace.specs.Codes.{kindUnit}
 use Rattle.sa110.specs.declared.Part.{Part}
 use Rattle.sa110.specs.declared.Part.the-variants.{OfStore, OfMemory, Empty}
 use Rattle.sa110.specs.Look.{shown}
@@ -7,8 +8,8 @@ use Rattle.machine.specs.Machine.{Machine}
 
 -- 2^32 + the line's offset in the cache store, 2 × 2^32 + its offset in memory, or 0
 abbrev pub partCode : Part → ℕ
-partCode (OfStore i) = 0x100000000 + i * 32
-partCode (OfMemory i) = 0x200000000 + i * 32
+partCode (OfStore i) = kindUnit + i * 32
+partCode (OfMemory i) = 2 * kindUnit + i * 32
 partCode Empty = 0
 
 -- a look at a virtual address

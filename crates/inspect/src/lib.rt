@@ -19,8 +19,8 @@ fn part_code(p: Part) -> u64
     ensures { λ r. ⌜ r ≡ partCode p ⌝ }
 {
     match p {
-        Part::OfStore(i) => 0x100000000 + (i as u64) * 32,
-        Part::OfMemory(i) => 0x200000000 + (i as u64) * 32,
+        Part::OfStore(i) => trace::KIND_UNIT + (i as u64) * 32,
+        Part::OfMemory(i) => 2 * trace::KIND_UNIT + (i as u64) * 32,
         Part::Empty => 0,
     }
 }

@@ -3,7 +3,7 @@ use Prim.Native.Nat.{ℕ}
 use mathlib.Core.Bool.{cond}
 use mathlib.Core.List.{List}
 use Rattle.trace.specs.Calls.{isCall, callOf}
-use Rattle.trace.specs.Codes.{codeOf}
+use Rattle.trace.specs.Codes.{codeOf, noCall}
 use Rattle.step.specs.Call.{served}
 use Rattle.sa110.specs.State.{machineIn}
 use Rattle.lent.specs.declared.Answered.{Answered}
@@ -20,7 +20,7 @@ codedOf s = record { machine = s .machine; code = codeOf (s .answer) }
 -- the call of five numbers; 3 × 2^32 for numbers that are no call, which change nothing
 unfoldable pub calledBy : Machine → ℕ → ℕ → ℕ → ℕ → ℕ → Coded
 calledBy m kind privileged n a v =
-    cond (isCall kind privileged) (codedOf (served m (callOf kind privileged n a v))) (record { machine = m; code = 0x300000000 })
+    cond (isCall kind privileged) (codedOf (served m (callOf kind privileged n a v))) (record { machine = m; code = noCall })
 
 -- what the function answers, with the lent bytes
 abbrev pub answeredOf : List ℕ → List ℕ → Answered → Coded

@@ -49,7 +49,7 @@ fn call_numbers(
         ≡ coded.calledBy (machineIn (now (memory .entry)) (now (store .entry)) state cp15) kind privileged n a v ⌝ }
 {
     let calls = [kind, privileged, n, a, v];
-    let mut answers = [0x300000000u64; 1];
+    let mut answers = [trace::NO_CALL; 1];
     let r = sa110::run(state, cp15, memory, store, &calls, &mut answers);
     let after = r.state;
     let left = r.cp15;

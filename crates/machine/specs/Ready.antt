@@ -18,7 +18,7 @@ pub record TlbReady (entries : List ℕ) (s : Scalars) : Type 0 where
   pub entries-long : length entries ≡ 32
   pub entries-ranged : (i : ℕ) → i < 32 → InRange (entryOf (getD entries i 0))
   pub pointer : s .cp15 .pointer < 32
-  pub base : s .cp15 .registers .base % 16384 ≡ 0
+  pub base : s .cp15 .registers .base % 0x4000 ≡ 0
   pub misses : s .counts .misses < countLimit
 
 -- of the data side: lengths, buffer entries and lines inside memory, pointers in range, and room in the counts

@@ -31,7 +31,7 @@ use Rattle.words.proofs.Widths.{is-one}
 use Rattle.bus.specs.Physical.{physical, aborts}
 use Rattle.bus.proofs.Laws.{answers}
 use Rattle.translation.specs.Alignment.{alignmentFaults, cleared}
-use Rattle.translation.specs.Translation.{walkedOnly, checked, decision, decided}
+use Rattle.translation.specs.Translation.{walkedOnly, checked, decisionFrom, decided}
 use Rattle.translation.specs.Faults.{fills, buffers, fillStatus, otherStatus, faultSet}
 use Rattle.translation.specs.declared.Decision.{Decision}
 use Rattle.translation.specs.declared.Translation.{Translation}
@@ -106,11 +106,11 @@ inside-fits memory a l i =
 -- ---- by what alignment, translation and rights give
 
 module _ (r : Registers) (a : Access) (t : Translation) where
-  decided-misaligned : alignmentFaults r a ≡ true → decided r a t ≡ decision Flat (Denied Alignment 0)
+  decided-misaligned : alignmentFaults r a ≡ true → decided r a t ≡ decisionFrom Flat (Denied Alignment 0)
   unfolding decided
   decided-misaligned h = rw h
 
-  decided-aligned : alignmentFaults r a ≡ false → decided r a t ≡ decision t (checked r a t)
+  decided-aligned : alignmentFaults r a ≡ false → decided r a t ≡ decisionFrom t (checked r a t)
   unfolding decided
   decided-aligned h = rw h
 

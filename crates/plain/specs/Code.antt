@@ -29,8 +29,8 @@ plainLeft memory answers r = withRefusal (leaves (plainOf memory (r .state)) ans
 
 -- the registers are as writes leave them
 pub record Kept (r : Registers) : Type 0 where
-  pub base : r .base % 16384 ≡ 0
-  pub control : r .control < 8192
+  pub base : r .base % 0x4000 ≡ 0
+  pub control : r .control < 0x2000
 
 -- what a step leaves is this, with such registers
 pub record Steps (r e : PlainStepped) : Type 0 where

@@ -156,7 +156,7 @@ fn access(table: &[u8; 256], memory: &mut [u8], s: PlainState, a: Access) -> Out
 
 // A CP15 read.
 fn read(s: PlainState, t: Transfer) -> Outcome
-    requires { ⌜ s .registers .control < 8192 ⌝ }
+    requires { ⌜ s .registers .control < 0x2000 ⌝ }
     ensures { λ r. ⌜ ((m : List ℕ) → steppedOf m r ≡ spec.plainRead (plainOf m s) t) ⌝ }
 {
     let r = s.registers;

@@ -19,7 +19,7 @@ use Rattle.words.proofs.Widths.{is-one}
 use Rattle.translation.specs.Alignment.{cleared}
 
 -- an access lies in one block of sixteen bytes, so in one line: its place is as far in a small page as its cleared address
-pub in-block : (a : Access) (pa : ℕ) → isWidth (a .width) ≡ true → pa % 4096 ≡ cleared a .0 % 4096 → pa % 16 + a .width ≤ 16
+pub in-block : (a : Access) (pa : ℕ) → isWidth (a .width) ≡ true → pa % 0x1000 ≡ cleared a .0 % 0x1000 → pa % 16 + a .width ≤ 16
 unfolding cleared
 in-block a pa w e =
     case (eqb (a .width) 4)

@@ -31,7 +31,7 @@ use values::VirtualAddress;
 
 // The TLB's entry that covers the address, or a walk.
 fn translate(memory: &[u8], entries: &[u64], r: Registers, va: VirtualAddress) -> Translation
-    requires { ⌜ (length (now entries) ≡ 32) × ((i : ℕ) → i < 32 → InRange (entryOf (getD (now entries) i 0))) × (r .base % 16384 ≡ 0) ⌝ }
+    requires { ⌜ (length (now entries) ≡ 32) × ((i : ℕ) → i < 32 → InRange (entryOf (getD (now entries) i 0))) × (r .base % 0x4000 ≡ 0) ⌝ }
     ensures { λ t. ⌜ Is t (mapped.translation (entriesOf (now (entries .entry))) r (physical (now (memory .entry))) va) ⌝ }
 {
     if values::mmu(r) {
@@ -54,7 +54,7 @@ pub fn decide(
     a: Access,
 ) -> Decision
     requires { ⌜ (now table ≡ rightsTable) × (length (now entries) ≡ 32) × ((i : ℕ) → i < 32 → InRange (entryOf (getD (now entries) i 0)))
-        × (r .base % 16384 ≡ 0) × (isWidth (a .width) ≡ true) ⌝ }
+        × (r .base % 0x4000 ≡ 0) × (isWidth (a .width) ≡ true) ⌝ }
     ensures { λ d.
         ⌜ DecisionIs a d
         (mapped.decided r a (mapped.translation (entriesOf (now (entries .entry))) r (physical (now (memory .entry))) (aligned.cleared a))) ⌝ }

@@ -1,5 +1,5 @@
 -- "Refused calls, in checking order": the twelve rows, and those that a call alone decides. The number of a refusal is that of the first row met,
--- among the rows that the call meets, in their order; 0 is none.
+-- among the rows that the call meets, in their order; 0 is none. Which rows each call meets: crate step, specs/Meets.antt.
 use Prim.Native.Nat.{ℕ, _%_}
 use mathlib.Core.Bool.{Bool, true, false, cond, not, _&&_}
 use mathlib.Core.List.{List, [], _∷_}
@@ -87,11 +87,11 @@ module _ (t : Transfer) (writes : Bool) (v : ℕ) where
   abbrev pub row12 : Row ℕ
   row12 = refuses 12 (writes && (eqb (t .register) 1 && not (listed v)))
 
-  -- "a CP15 call ... 8 to 12"
+  -- those that a CP15 call alone decides
   abbrev pub transferRows : List (Row ℕ)
   transferRows = row8 ∷ row9 ∷ row10 ∷ row11 ∷ row12 ∷ []
 
--- "an access ... 6 and 7"; a CP15 call 8 to 12: the rows that the call alone decides
+-- the rows that a call alone decides: 6 and 7 of an access, 8 to 12 of a CP15 call
 abbrev pub callRows : call.Call → List (Row ℕ)
 callRows (calls.Access a) = row6 a ∷ row7 a ∷ []
 callRows (Read t) = transferRows t false 0

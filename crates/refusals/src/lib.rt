@@ -1,4 +1,4 @@
-// The refusals that lengths, the count of calls and the call alone decide, as rows of the table.
+// The refusals that the lengths and the call alone decide: the number of the first row met, 0 where none is.
 ghost use mathlib.Core.Path.{_≡_};
 ghost use mathlib.Core.Bool.{true, false};
 ghost use mathlib.Core.List.{[], _∷_};
@@ -33,7 +33,7 @@ pub fn lent_refusal(memory: usize, store: usize) -> u32
     1
 }
 
-// Refusal 7 of an access of width 1, 2 or 4, or 0.
+// Whether the value to store, if there is one, fits a width of 1, 2 or 4 (refusal 7).
 fn value_fits(width: u32, k: Kind) -> bool
     requires { ⌜ isWidth width ≡ true ⌝ }
     ensures { λ r. ⌜ r ≡ spec.valueFits width k ⌝ }
@@ -79,7 +79,7 @@ fn value_refusal(t: Transfer, v: u32) -> u32
         return 10;
     }
     if t.register == 1 {
-        if v / 128 % 2 == 1 {
+        if v / 0x80 % 2 == 1 {
             return 11;
         }
         if registers::is_listed(v) {

@@ -22,8 +22,8 @@ readOf r n =
 unfoldable pub writtenOf : Registers → ℕ → ℕ → Registers
 writtenOf r n v =
     cond (eqb n 1) (withControl r (kept v))
-    (cond (eqb n 2) (withBase r (v / 16384 * 16384))
+    (cond (eqb n 2) (withBase r (v / 0x4000 * 0x4000))
     (cond (eqb n 3) (withDomains r v)
-    (cond (eqb n 5) (withFsr r (v % 256))
+    (cond (eqb n 5) (withFsr r (v % 0x100))
     (cond (eqb n 6) (withFar r v)
     r))))

@@ -11,7 +11,7 @@ use values::Transfer;
 pub fn kept(v: u32) -> u32
     ensures { λ r. ⌜ r ≡ control.kept v ⌝ }
 {
-    v % 16 + v / 256 % 4 * 256 + v / 4096 % 2 * 4096
+    v % 0x10 + v / 0x100 % 4 * 0x100 + v / 0x1000 % 2 * 0x1000
 }
 
 // Whether a control value's M, C and W are a listed combination.
@@ -32,14 +32,14 @@ pub fn is_listed(v: u32) -> bool
 
 // What a read of a register answers.
 pub fn read(r: Registers, n: u32) -> u32
-    requires { ⌜ r .control < 8192 ⌝ }
+    requires { ⌜ r .control < 0x2000 ⌝ }
     ensures { λ v. ⌜ v ≡ spec.readOf r n ⌝ }
 {
     if n == 0 {
         return 0x4401A100;
     }
     if n == 1 {
-        return r.control + 112;
+        return r.control + 0x70;
     }
     if n == 2 {
         return r.base;
@@ -66,7 +66,7 @@ pub fn written(r: Registers, n: u32, v: u32) -> Registers
         return s;
     }
     if n == 2 {
-        s.base = v / 16384 * 16384;
+        s.base = v / 0x4000 * 0x4000;
         return s;
     }
     if n == 3 {
@@ -74,7 +74,7 @@ pub fn written(r: Registers, n: u32, v: u32) -> Registers
         return s;
     }
     if n == 5 {
-        s.fsr = v % 256;
+        s.fsr = v % 0x100;
         return s;
     }
     if n == 6 {

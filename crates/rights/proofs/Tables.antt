@@ -54,11 +54,11 @@ bit-number n k =
 
 -- the same at the index as the code adds it up
 pub right-by : (value ap′ control p w : ℕ) (privileged store : Bool) → value < 4 → ap′ < 4 → p ≡ number privileged → w ≡ number store
-    → getD rightsTable (value * 64 + ap′ * 16 + control / 256 % 2 * 8 + control / 512 % 2 * 4 + p * 2 + w) 0
+    → getD rightsTable (value * 64 + ap′ * 16 + control / 0x100 % 2 * 8 + control / 0x200 % 2 * 4 + p * 2 + w) 0
     ≡ rights value ap′ (bit control 8) (bit control 9) privileged store
 right-by value ap′ control p w privileged store hv ha ep ew =
-    let s : number (bit control 8) ≡ control / 256 % 2 = bit-number control 8 in
-    let r : number (bit control 9) ≡ control / 512 % 2 = bit-number control 9 in
-    let e : value * 64 + ap′ * 16 + control / 256 % 2 * 8 + control / 512 % 2 * 4 + p * 2 + w
+    let s : number (bit control 8) ≡ control / 0x100 % 2 = bit-number control 8 in
+    let r : number (bit control 9) ≡ control / 0x200 % 2 = bit-number control 9 in
+    let e : value * 64 + ap′ * 16 + control / 0x100 % 2 * 8 + control / 0x200 % 2 * 4 + p * 2 + w
     ≡ indexOf value ap′ (bit control 8) (bit control 9) privileged store = omega arith in
     ap (λ (k : ℕ). getD rightsTable k 0) e ∙ right-at value ap′ (bit control 8) (bit control 9) privileged store hv ha

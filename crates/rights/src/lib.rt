@@ -54,8 +54,8 @@ pub fn right(
     requires { ⌜ (now table ≡ rightsTable) × (value < 4) × (ap < 4) ⌝ }
     ensures { λ r. ⌜ r ≡ rights value ap (bit control 8) (bit control 9) privileged store ⌝ }
 {
-    let s = control / 256 % 2;
-    let r = control / 512 % 2;
+    let s = control / 0x100 % 2;
+    let r = control / 0x200 % 2;
     let p = values::bit_number(privileged);
     let w = values::bit_number(store);
     let i = value * 64 + ap * 16 + s * 8 + r * 4 + p * 2 + w;
@@ -63,7 +63,7 @@ pub fn right(
 }
 
 // The place of a domain's pair.
-pub fn place(domain: u32) -> u32
+fn place(domain: u32) -> u32
     requires { ⌜ domain < 16 ⌝ }
     ensures { λ r. ⌜ r ≡ 2 * domain ⌝ }
 {

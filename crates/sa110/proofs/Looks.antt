@@ -37,7 +37,7 @@ module _ (m : Machine) (va : VirtualAddress) (n : ℕ) (e : n ≡ stateRefusal m
     unfolding shown
     shown-by x f = rw (← e, eq-eqb n 0 z, f)
 
-    pub base-whole : length (linesOf m) ≡ 512 → m .cp15 .registers .base % 16384 ≡ 0
+    pub base-whole : length (linesOf m) ≡ 512 → m .cp15 .registers .base % 0x4000 ≡ 0
     base-whole l = let h = sound-means m l (accepts m (sym e ∙ z) .is-sound) .base in omega arith
 
 -- a memory and a cache store, no longer than some lengths

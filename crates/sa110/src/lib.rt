@@ -18,6 +18,7 @@ ghost use Rattle.step.specs.Start as starts;
 ghost use Rattle.sa110.specs.Look as looks;
 ghost use Rattle.trace.specs.Fold.{callsIn, Holds};
 ghost use Rattle.sa110.specs.State.{bytesOf, machineIn, calledOf, ranOf, startedOf};
+ghost use Rattle.values.specs.Registers.{zeroCp15};
 use values::Answer;
 use values::Call;
 use values::Counts;
@@ -27,7 +28,6 @@ use values::Registers;
 use values::Search;
 use values::VirtualAddress;
 use walk::Mapping;
-ghost use Rattle.values.specs.Registers.{zeroCp15};
 
 // The sixteen bytes of a place of the write buffer.
 #[repr(C)]
@@ -192,7 +192,6 @@ pub fn call(state: State, cp15: Cp15, memory: &mut [u8], store: &mut [u8], c: Ca
 }
 
 // What a run leaves beside the lent lists.
-#[repr(C)]
 pub struct Ran {
     pub state: State,
     pub cp15: Cp15,
@@ -285,7 +284,6 @@ pub fn run(
 }
 
 // What a start leaves: a fresh state and a record of zeros, and refusal 1 or 2, or 0.
-#[repr(C)]
 pub struct Started {
     pub state: State,
     pub cp15: Cp15,
@@ -365,7 +363,7 @@ fn mapped_line(n: usize, va: VirtualAddress, m: Mapping) -> Part
 
 // The line of a virtual address in memory: by a walk past the TLB, or flat.
 fn uncached_line(memory: &[u8], r: Registers, va: VirtualAddress) -> Part
-    requires { ⌜ r .base % 16384 ≡ 0 ⌝ }
+    requires { ⌜ r .base % 0x4000 ≡ 0 ⌝ }
     ensures { λ x.
         ⌜ x ≡ cond (mmu r) (looks.walkedLine (length (now (memory .entry))) va (walk (physical (now (memory .entry))) (r .base) va))
         (looks.memoryLine (length (now (memory .entry))) (flat va)) ⌝ }

@@ -24,7 +24,7 @@ module _ (r : Registers) (v : ℕ) (k : RegistersAre r) where
   control-kept : kept v ≡ v → listed v ≡ true → RegistersAre (withControl r v)
   control-kept e l = record { control = e; combination = l; base = k .base; base-low = k .base-low; domains = k .domains; fsr = k .fsr; far = k .far }
 
-  base-kept : v / 16384 * 16384 ≡ v → v < 0x100000000 → RegistersAre (withBase r v)
+  base-kept : v / 0x4000 * 0x4000 ≡ v → v < 0x100000000 → RegistersAre (withBase r v)
   base-kept e h = record { control = k .control; combination = k .combination; base = e; base-low = h; domains = k .domains; fsr = k .fsr; far = k .far }
 
   -- the other three have a range alone
@@ -73,15 +73,15 @@ low-part v = omega arith
 pub kept-twice : (v : ℕ) → kept (kept v) ≡ kept v
 unfolding kept
 kept-twice v =
-    parts (v % 16) (v / 256 % 4) (v / 4096 % 2) (omega arith) (omega arith) (omega arith)
+    parts (v % 16) (v / 256 % 4) (v / 0x1000 % 2) (omega arith) (omega arith) (omega arith)
   where
     parts : (a b c : ℕ) → a < 16 → b < 4 → c < 2
-        → (a + b * 256 + c * 4096) % 16 + (a + b * 256 + c * 4096) / 256 % 4 * 256 + (a + b * 256 + c * 4096) / 4096 % 2 * 4096 ≡ a + b * 256 + c * 4096
+        → (a + b * 256 + c * 0x1000) % 16 + (a + b * 256 + c * 0x1000) / 256 % 4 * 256 + (a + b * 256 + c * 0x1000) / 0x1000 % 2 * 0x1000 ≡ a + b * 256 + c * 0x1000
     parts a b c ha hb hc =
-        let x = a + b * 256 + c * 4096 in
+        let x = a + b * 256 + c * 0x1000 in
         let e : x % 16 ≡ a = omega arith in
         let f : x / 256 ≡ b + c * 16 = omega arith in
-        let g : x / 4096 ≡ c = omega arith in
+        let g : x / 0x1000 ≡ c = omega arith in
         let h : (b + c * 16) % 4 ≡ b = omega arith in
         let i : c % 2 ≡ c = omega arith in
         rw (e, f, g, h, i)
@@ -115,7 +115,7 @@ written-kept r n v k h l =
     (λ t. rw t (control-kept r (kept v) k (kept-twice v) (listed-kept v ∙ l (eqb-true n 1 t))))
     (λ t.
     case (eqb n 2)
-    (λ u. rw (t, u) (base-kept r (v / 16384 * 16384) k (omega arith) (omega arith)))
+    (λ u. rw (t, u) (base-kept r (v / 0x4000 * 0x4000) k (omega arith) (omega arith)))
     (λ u.
     case (eqb n 3)
     (λ w. rw (t, u, w) (domains-kept r v k h))

@@ -20,7 +20,7 @@ use Rattle.soundness_laws.proofs.Elements.{seven}
 pub record RegistersAre (r : Registers) : Type 0 where
   pub control : kept (r .control) ≡ r .control
   pub combination : listed (r .control) ≡ true
-  pub base : r .base / 16384 * 16384 ≡ r .base
+  pub base : r .base / 0x4000 * 0x4000 ≡ r .base
   pub base-low : r .base < 0x100000000
   pub domains : r .domains < 0x100000000
   pub fsr : r .fsr < 256
@@ -33,7 +33,7 @@ registers-mean r h =
     seven
     (eqb (kept (r .control)) (r .control))
     (listed (r .control))
-    (eqb (r .base / 16384 * 16384) (r .base))
+    (eqb (r .base / 0x4000 * 0x4000) (r .base))
     (ltb (r .base) 0x100000000)
     (ltb (r .domains) 0x100000000)
     (ltb (r .fsr) 256)
@@ -42,7 +42,7 @@ registers-mean r h =
     record {
       control = eqb-true (kept (r .control)) (r .control) (s .first);
       combination = s .second;
-      base = eqb-true (r .base / 16384 * 16384) (r .base) (s .third);
+      base = eqb-true (r .base / 0x4000 * 0x4000) (r .base) (s .third);
       base-low = ltb-true (r .base) 0x100000000 (s .fourth);
       domains = ltb-true (r .domains) 0x100000000 (s .fifth);
       fsr = ltb-true (r .fsr) 256 (s .sixth);
@@ -55,7 +55,7 @@ registers-of r h =
     rw (
       eq-eqb (kept (r .control)) (r .control) (h .control),
       h .combination,
-      eq-eqb (r .base / 16384 * 16384) (r .base) (h .base),
+      eq-eqb (r .base / 0x4000 * 0x4000) (r .base) (h .base),
       lt-ltb (r .base) 0x100000000 (h .base-low),
       lt-ltb (r .domains) 0x100000000 (h .domains),
       lt-ltb (r .fsr) 256 (h .fsr),

@@ -227,14 +227,14 @@ in-range e r =
       large = λ s. let q = rw s at (r .pbase) in omega arith;
     }
   where
-    page : (x : ℕ) → baseOf (e .size) x ≡ x → x % 4096 ≡ 0
+    page : (x : ℕ) → baseOf (e .size) x ≡ x → x % 0x1000 ≡ 0
     page x h =
         case (eqb (e .size) 0)
         (λ t. let q : x / 0x100000 * 0x100000 ≡ x = rw t at h in omega arith)
         (λ t.
         case (eqb (e .size) 1)
         (λ u. let q : x / 0x10000 * 0x10000 ≡ x = rw (t, u) at h in omega arith)
-        (λ u. let q : x / 4096 * 4096 ≡ x = rw (t, u) at h in omega arith))
+        (λ u. let q : x / 0x1000 * 0x1000 ≡ x = rw (t, u) at h in omega arith))
 
 judged-ranged : (va : VirtualAddress) (right : ℕ) (e : Entry) → Valid e → CheckedRanged va (judged right e va)
 judged-ranged va right e h =

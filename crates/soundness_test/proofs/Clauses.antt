@@ -1,10 +1,10 @@
 -- The clauses of refusal 3 of one word.
-use Prim.Native.Nat.{ℕ, _+_, _*_, _/_, _%_, _<_, _≤_}
+use Prim.Native.Nat.{ℕ, _+_, _-_, _*_, _/_, _%_, _<_, _≤_}
 use native.Mathlib.Omega.{arith}
 use mathlib.Core.Bool.{Bool, true, false, cond, not, _&&_}
 use mathlib.Core.Path.{_≡_, refl, sym, _∙_, ap}
 use lib.Dec.{eqb, ltb, leb}
-use borrow.Author.Tests.{eqb-true, eqb-false, eq-eqb, ne-eqb, lt-ltb, le-ltb, le-leb, lt-leb}
+use borrow.Author.Tests.{eqb-true, eqb-false, eq-eqb, ne-eqb, lt-ltb, le-ltb, le-leb, lt-leb, leb-true, leb-false}
 use Rattle.values.specs.Bits.{bit}
 use Rattle.values.proofs.Cases.{case, and-false}
 use Rattle.cache.specs.Packing.{lineOf}
@@ -125,20 +125,20 @@ same-test a b x y f g =
 
 -- "a TLB base not a multiple of its size"
 module _ (size page : ℕ) where
-  pub base-section : size ≡ 0 → eqb (baseOf size (page * 4096)) (page * 4096) ≡ eqb (page % 256) 0
+  pub base-section : size ≡ 0 → eqb (baseOf size (page * 0x1000)) (page * 0x1000) ≡ eqb (page % 0x100) 0
   base-section e =
-      let q : page * 4096 / 0x100000 ≡ page / 256 = omega arith in
-      rw (e, q) (same-test (page / 256 * 0x100000) (page * 4096) (page % 256) 0 (λ k. omega arith) (λ k. omega arith))
+      let q : page * 0x1000 / 0x100000 ≡ page / 256 = omega arith in
+      rw (e, q) (same-test (page / 256 * 0x100000) (page * 0x1000) (page % 0x100) 0 (λ k. omega arith) (λ k. omega arith))
 
-  pub base-large : size ≡ 1 → eqb (baseOf size (page * 4096)) (page * 4096) ≡ eqb (page % 16) 0
+  pub base-large : size ≡ 1 → eqb (baseOf size (page * 0x1000)) (page * 0x1000) ≡ eqb (page % 16) 0
   base-large e =
-      let q : page * 4096 / 0x10000 ≡ page / 16 = omega arith in
-      rw (e, q) (same-test (page / 16 * 0x10000) (page * 4096) (page % 16) 0 (λ k. omega arith) (λ k. omega arith))
+      let q : page * 0x1000 / 0x10000 ≡ page / 16 = omega arith in
+      rw (e, q) (same-test (page / 16 * 0x10000) (page * 0x1000) (page % 16) 0 (λ k. omega arith) (λ k. omega arith))
 
-  pub base-small : (size ≡ 0 → ⊥) → (size ≡ 1 → ⊥) → eqb (baseOf size (page * 4096)) (page * 4096) ≡ true
+  pub base-small : (size ≡ 0 → ⊥) → (size ≡ 1 → ⊥) → eqb (baseOf size (page * 0x1000)) (page * 0x1000) ≡ true
   base-small a b =
-      let q : page * 4096 / 4096 ≡ page = omega arith in
-      rw (ne-eqb size 0 a, ne-eqb size 1 b, q) (eq-eqb (page * 4096) (page * 4096) refl)
+      let q : page * 0x1000 / 0x1000 ≡ page = omega arith in
+      rw (ne-eqb size 0 a, ne-eqb size 1 b, q) (eq-eqb (page * 0x1000) (page * 0x1000) refl)
 
 -- the fields of an entry
 module _ (w : ℕ) where
@@ -158,37 +158,37 @@ module _ (w : ℕ) where
 
 module _ (w : ℕ) (small′ : w < 0x10000000000000000) where
   abbrev vtest : Bool
-  vtest = eqb (baseOf (w / 8 % 32) (w / 0x100000000000 * 4096)) (w / 0x100000000000 * 4096)
+  vtest = eqb (baseOf (w / 8 % 32) (w / 0x100000000000 * 0x1000)) (w / 0x100000000000 * 0x1000)
 
   abbrev ptest : Bool
-  ptest = eqb (baseOf (w / 8 % 32) (w / 0x1000000 % 0x100000 * 4096)) (w / 0x1000000 % 0x100000 * 4096)
+  ptest = eqb (baseOf (w / 8 % 32) (w / 0x1000000 % 0x100000 * 0x1000)) (w / 0x1000000 % 0x100000 * 0x1000)
 
-  pub in-range : w / 8 % 32 < 3 → entryInRange (entryOf w) ≡ (vtest && (ptest && ltb (w / 256 % 256) 16))
+  pub in-range : w / 8 % 32 < 3 → entryInRange (entryOf w) ≡ (vtest && (ptest && ltb (w / 0x100 % 0x100) 16))
   unfolding entryOf
   in-range h =
       rw (
         lt-ltb (w / 8 % 32) 3 h,
-        lt-ltb (w / 0x100000000000 * 4096) 0x100000000 (omega arith),
-        lt-ltb (w / 0x1000000 % 0x100000 * 4096) 0x100000000 (omega arith),
+        lt-ltb (w / 0x100000000000 * 0x1000) 0x100000000 (omega arith),
+        lt-ltb (w / 0x1000000 % 0x100000 * 0x1000) 0x100000000 (omega arith),
         lt-ltb (w / 0x10000 % 256) 256 (omega arith),
       )
-      (shuffle vtest ptest (ltb (w / 256 % 256) 16))
+      (shuffle vtest ptest (ltb (w / 0x100 % 0x100) 16))
     where
       shuffle : (a b c : Bool) → (a && (b && (c && true))) ≡ (a && (b && c))
       shuffle a b true = refl
       shuffle a b false = refl
 
   module _ (h : w / 8 % 32 < 3) where
-    pub range-domain : 16 ≤ w / 256 % 256 → entryInRange (entryOf w) ≡ false
-    range-domain d = in-range h ∙ rw (le-ltb (w / 256 % 256) 16 d) (never vtest ptest)
+    pub range-domain : 16 ≤ w / 0x100 % 0x100 → entryInRange (entryOf w) ≡ false
+    range-domain d = in-range h ∙ rw (le-ltb (w / 0x100 % 0x100) 16 d) (never vtest ptest)
       where
         never : (a b : Bool) → (a && (b && false)) ≡ false
         never true true = refl
         never true false = refl
         never false b = refl
 
-    pub range-physical : w / 256 % 256 < 16 → vtest ≡ true → entryInRange (entryOf w) ≡ ptest
-    range-physical d v = in-range h ∙ rw (lt-ltb (w / 256 % 256) 16 d, v) (always ptest)
+    pub range-physical : w / 0x100 % 0x100 < 16 → vtest ≡ true → entryInRange (entryOf w) ≡ ptest
+    range-physical d v = in-range h ∙ rw (lt-ltb (w / 0x100 % 0x100) 16 d, v) (always ptest)
       where
         always : (b : Bool) → (b && true) ≡ b
         always true = refl
@@ -204,7 +204,7 @@ module _ (w : ℕ) (small′ : w < 0x10000000000000000) where
       let q : w / 1 % 2 ≡ 0 = omega arith in
       rw q (empty (eqb w 0) refl)
     where
-      all-zero : w / 8 % 32 ≡ 0 → w / 0x100000000000 * 4096 ≡ 0 → w / 0x1000000 % 0x100000 * 4096 ≡ 0 → w / 256 % 256 ≡ 0 → w / 0x10000 % 256 ≡ 0
+      all-zero : w / 8 % 32 ≡ 0 → w / 0x100000000000 * 0x1000 ≡ 0 → w / 0x1000000 % 0x100000 * 0x1000 ≡ 0 → w / 0x100 % 0x100 ≡ 0 → w / 0x10000 % 256 ≡ 0
           → (w / 2 % 2 ≡ 1 → ⊥) → (w / 4 % 2 ≡ 1 → ⊥) → w ≡ 0
       all-zero s v p d a c b =
           let c′ : w / 2 % 2 ≡ 0 = omega arith in
@@ -217,18 +217,18 @@ module _ (w : ℕ) (small′ : w < 0x10000000000000000) where
           small w (below-eight w x4) (even w e) c′ b′
 
       empty : (z : Bool) → eqb w 0 ≡ z
-          → (eqb (w / 8 % 32) 0 && (eqb (w / 0x100000000000 * 4096) 0 &&
-          (eqb (w / 0x1000000 % 0x100000 * 4096) 0 && (eqb (w / 256 % 256) 0 && (eqb (w / 0x10000 % 256) 0
+          → (eqb (w / 8 % 32) 0 && (eqb (w / 0x100000000000 * 0x1000) 0 &&
+          (eqb (w / 0x1000000 % 0x100000 * 0x1000) 0 && (eqb (w / 0x100 % 0x100) 0 && (eqb (w / 0x10000 % 256) 0
           && (not (bit w 1) && not (bit w 2))))))) ≡ z
       empty true z = let k : w ≡ 0 = eqb-true w 0 z in rw k
       empty false z =
           case (eqb (w / 8 % 32) 0)
           (λ s.
-          case (eqb (w / 0x100000000000 * 4096) 0)
+          case (eqb (w / 0x100000000000 * 0x1000) 0)
           (λ v.
-          case (eqb (w / 0x1000000 % 0x100000 * 4096) 0)
+          case (eqb (w / 0x1000000 % 0x100000 * 0x1000) 0)
           (λ p.
-          case (eqb (w / 256 % 256) 0)
+          case (eqb (w / 0x100 % 0x100) 0)
           (λ d.
           case (eqb (w / 0x10000 % 256) 0)
           (λ a.
@@ -240,8 +240,8 @@ module _ (w : ℕ) (small′ : w < 0x10000000000000000) where
           (λ b.
           absurd
           (eqb-false w 0 z
-          (all-zero (eqb-true (w / 8 % 32) 0 s) (eqb-true (w / 0x100000000000 * 4096) 0 v) (eqb-true (w / 0x1000000 % 0x100000 * 4096) 0 p)
-          (eqb-true (w / 256 % 256) 0 d) (eqb-true (w / 0x10000 % 256) 0 a)
+          (all-zero (eqb-true (w / 8 % 32) 0 s) (eqb-true (w / 0x100000000000 * 0x1000) 0 v) (eqb-true (w / 0x1000000 % 0x100000 * 0x1000) 0 p)
+          (eqb-true (w / 0x100 % 0x100) 0 d) (eqb-true (w / 0x10000 % 256) 0 a)
           (eqb-false (w / 2 % 2) 1 c) (eqb-false (w / 4 % 2) 1 b))))))
           (λ a. rw (s, v, p, d, a)))
           (λ d. rw (s, v, p, d)))
@@ -252,6 +252,13 @@ module _ (w : ℕ) (small′ : w < 0x10000000000000000) where
   pub entry-odd : w % 2 ≡ 1 → entrySound (entryOf w) ≡ entryInRange (entryOf w)
   unfolding entrySound entryOf
   entry-odd e = let q : w / 1 % 2 ≡ 1 = omega arith in rw q
+
+-- a sum is at most n where its first part is at most what the other leaves
+sum-test : (h d n : ℕ) → d ≤ n → leb (h + d) n ≡ leb h (n - d)
+sum-test h d n l =
+    case (leb (h + d) n)
+    (λ t. t ∙ sym (le-leb h (n - d) (let g = leb-true (h + d) n t in omega arith)))
+    (λ t. t ∙ sym (lt-leb h (n - d) (let g = leb-false (h + d) n t in omega arith)))
 
 -- "TLB misses, hits or fills above the calls, or halves sent out plus dirty halves above the calls"
 module _ (c : Counts) (lines : List Line) where
@@ -269,9 +276,16 @@ module _ (c : Counts) (lines : List Line) where
       unfolding countsSound
       fills-high h = rw (le-leb (c .misses) (c .calls) m, le-leb (c .hits) (c .calls) k, lt-leb (c .fills) (c .calls) h)
 
-      pub halves-test : c .fills ≤ c .calls → (dirty : ℕ) → dirty ≡ sum dirtyHalves lines → countsSound c lines ≡ leb (c .halves + dirty) (c .calls)
-      unfolding countsSound
-      halves-test f dirty e = rw (le-leb (c .misses) (c .calls) m, le-leb (c .hits) (c .calls) k, le-leb (c .fills) (c .calls) f, e)
+      module _ (f : c .fills ≤ c .calls) (dirty : ℕ) (e : dirty ≡ sum dirtyHalves lines) where
+        in-range : countsSound c lines ≡ leb (c .halves + dirty) (c .calls)
+        unfolding countsSound
+        in-range = rw (le-leb (c .misses) (c .calls) m, le-leb (c .hits) (c .calls) k, le-leb (c .fills) (c .calls) f, e)
+
+        pub dirty-high : c .calls < dirty → countsSound c lines ≡ false
+        dirty-high h = in-range ∙ lt-leb (c .halves + dirty) (c .calls) (omega arith)
+
+        pub halves-test : dirty ≤ c .calls → countsSound c lines ≡ leb (c .halves) (c .calls - dirty)
+        halves-test d = in-range ∙ sum-test (c .halves) dirty (c .calls) d
 
 -- a conjunction of two tests, each by its meaning
 pub pair : {r a b x y : Bool} → r ≡ (a && b) → a ≡ x → b ≡ y → r ≡ (x && y)

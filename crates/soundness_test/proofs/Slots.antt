@@ -187,21 +187,21 @@ module _ (r : Registers) where
     listed-no h = rw (eq-eqb (kept (r .control)) (r .control) k, h)
 
     module _ (l : listed (r .control) ≡ true) where
-      pub base-no : (r .base % 16384 ≡ 0 → ⊥) → registersSound r ≡ false
+      pub base-no : (r .base % 0x4000 ≡ 0 → ⊥) → registersSound r ≡ false
       unfolding registersSound
-      base-no h = rw (eq-eqb (kept (r .control)) (r .control) k, l, ne-eqb (r .base / 16384 * 16384) (r .base) (λ e. h (multiple e)))
+      base-no h = rw (eq-eqb (kept (r .control)) (r .control) k, l, ne-eqb (r .base / 0x4000 * 0x4000) (r .base) (λ e. h (multiple e)))
         where
-          multiple : r .base / 16384 * 16384 ≡ r .base → r .base % 16384 ≡ 0
+          multiple : r .base / 0x4000 * 0x4000 ≡ r .base → r .base % 0x4000 ≡ 0
           multiple e = omega arith
 
-      pub fsr-test : r .base % 16384 ≡ 0 → r .base < 0x100000000 → r .domains < 0x100000000 → r .far < 0x100000000 → registersSound r ≡ ltb (r .fsr) 256
+      pub fsr-test : r .base % 0x4000 ≡ 0 → r .base < 0x100000000 → r .domains < 0x100000000 → r .far < 0x100000000 → registersSound r ≡ ltb (r .fsr) 256
       unfolding registersSound
       fsr-test b hb hd hf =
-          let e : r .base / 16384 * 16384 ≡ r .base = omega arith in
+          let e : r .base / 0x4000 * 0x4000 ≡ r .base = omega arith in
           rw (
             eq-eqb (kept (r .control)) (r .control) k,
             l,
-            eq-eqb (r .base / 16384 * 16384) (r .base) e,
+            eq-eqb (r .base / 0x4000 * 0x4000) (r .base) e,
             lt-ltb (r .base) 0x100000000 hb,
             lt-ltb (r .domains) 0x100000000 hd,
             lt-ltb (r .far) 0x100000000 hf,

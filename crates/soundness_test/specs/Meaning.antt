@@ -68,7 +68,7 @@ pub record IsSound (m : Machine) : Type 0 where
   pub outside : (i j : ℕ) → i < usedOf m → i < length (slotsOf m) → bit (slotAt m i .mask) j ≡ false → getD (slotAt m i .bytes) j 0 ≡ 0
   -- "a register bit or field outside its range": control has only the bits that are kept, the table base only bits 31 to 14, FSR 8 bits, the others 32
   pub control : kept (m .cp15 .registers .control) ≡ m .cp15 .registers .control
-  pub base : m .cp15 .registers .base / 16384 * 16384 ≡ m .cp15 .registers .base
+  pub base : m .cp15 .registers .base / 0x4000 * 0x4000 ≡ m .cp15 .registers .base
   pub base-low : m .cp15 .registers .base < 0x100000000
   pub domains : m .cp15 .registers .domains < 0x100000000
   pub fsr : m .cp15 .registers .fsr < 256

@@ -82,7 +82,7 @@ bufferSound n b =
 unfoldable pub registersSound : Registers → Bool
 registersSound r =
     eqb (kept (r .control)) (r .control) && (listed (r .control)
-    && (eqb (r .base / 16384 * 16384) (r .base) && (ltb (r .base) 0x100000000 && (ltb (r .domains) 0x100000000
+    && (eqb (r .base / 0x4000 * 0x4000) (r .base) && (ltb (r .base) 0x100000000 && (ltb (r .domains) 0x100000000
     && (ltb (r .fsr) 256 && ltb (r .far) 0x100000000)))))
 
 -- "TLB misses, hits or fills above the calls, or halves sent out plus dirty halves above the calls"

@@ -15,6 +15,7 @@ ghost use Rattle.cache.specs.Packing.{lineOf, linesOf, sideOf};
 ghost use Rattle.soundness_test.specs.Soundness as spec;
 ghost use Rattle.machine.specs.Machine.{machineFrom};
 ghost use Rattle.buffer.specs.Buffer.{bufferFrom};
+use values::Count;
 use values::Counts;
 use values::Cp15;
 use values::Line;
@@ -96,7 +97,7 @@ fn lines_sound(lines: &[u64], n: usize) -> bool
 }
 
 // How many halves of all lines are dirty. The dirty bits are added where they lie in a word, and the sums brought down at the end.
-fn dirty_halves(lines: &[u64]) -> u32
+fn dirty_halves(lines: &[u64]) -> Count
     requires { ⌜ length (now lines) ≡ 512 ⌝ }
     ensures { λ r. ⌜ (r ≡ sum dcache.dirtyHalves (linesOf (now (lines .entry)))) × (r ≤ 1024) ⌝ }
 {
@@ -109,15 +110,15 @@ fn dirty_halves(lines: &[u64]) -> u32
         high += line / 4 % 2 * 4;
         i += 1;
     }
-    (low / 2 + high / 4) as u32
+    (low / 2 + high / 4) as Count
 }
 
 // Whether a base of 4 KB pages is a multiple of a TLB size.
 fn base_sound(size: u64, page: u64) -> bool
-    ensures { λ r. ⌜ r ≡ eqb (baseOf size (page * 4096)) (page * 4096) ⌝ }
+    ensures { λ r. ⌜ r ≡ eqb (baseOf size (page * 0x1000)) (page * 0x1000) ⌝ }
 {
     if size == 0 {
-        return page % 256 == 0;
+        return page % 0x100 == 0;
     }
     if size == 1 {
         return page % 16 == 0;
@@ -133,7 +134,7 @@ fn fields_sound(w: u64) -> bool
     if size >= 3 {
         return false;
     }
-    if w / 256 % 256 >= 16 {
+    if w / 0x100 % 0x100 >= 16 {
         return false;
     }
     if base_sound(size, w / 0x100000000000) {
@@ -168,7 +169,7 @@ fn entries_sound(entries: &[u64]) -> bool
 }
 
 // Whether the counts are at most the calls, the dirty halves with the halves sent out.
-fn counts_sound(c: Counts, dirty: u32) -> bool
+fn counts_sound(c: Counts, dirty: Count) -> bool
     ensures { λ r. ⌜ ((lines : List Line) → dirty ≡ sum dcache.dirtyHalves lines → r ≡ spec.countsSound c lines) ⌝ }
 {
     if c.misses > c.calls {
@@ -180,7 +181,10 @@ fn counts_sound(c: Counts, dirty: u32) -> bool
     if c.fills > c.calls {
         return false;
     }
-    c.halves as u64 + dirty as u64 <= c.calls as u64
+    if dirty > c.calls {
+        return false;
+    }
+    c.halves <= c.calls - dirty
 }
 
 // The key of line p of a set: a valid line's is its tag, an empty line's a number that no tag in range and no other empty line has.
@@ -272,7 +276,7 @@ fn registers_sound(r: Registers) -> bool
 {
     if registers::kept(r.control) == r.control {
         if registers::is_listed(r.control) {
-            if r.base % 16384 == 0 {
+            if r.base % 0x4000 == 0 {
                 return r.fsr < 256;
             }
         }

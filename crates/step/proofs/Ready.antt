@@ -27,8 +27,8 @@ use Rattle.refusals.proofs.Rows.{row-met, row-unmet, rows-unmet}
 use Rattle.soundness_test.specs.Meaning.{IsSound}
 use Rattle.soundness_laws.proofs.TlbKept.{in-range}
 use Rattle.soundness_laws.proofs.Reader.{sound-means}
-use Rattle.step.specs.Meets.{stateRows, stateRefusal, refusal}
-use Rattle.step.proofs.StateRefusals.{not-state-refused, lengths-fit}
+use Rattle.step.specs.Meets.{stateMeets, stateRefusal, refusal}
+use Rattle.step.proofs.StateRefusals.{not-state-refused, lengths-fit, refusal-rows}
 use Rattle.step.specs.Call.{done, served}
 use Rattle.step.specs.Code.{Serves}
 use Rattle.refusals.specs.Refusals.{refusalIn, row5, callRows, callRefusal}
@@ -137,7 +137,7 @@ module _ (l : Lists) (es : List ℕ) (s : Scalars) (n : ℕ) (k : Serves (machin
           halves = λ i h. halves-room i;
         }
 
-  pub control-low : s .cp15 .registers .control < 8192
+  pub control-low : s .cp15 .registers .control < 0x2000
   unfolding kept
   control-low = let h = is .control in omega arith
 
@@ -159,7 +159,7 @@ module _ (l : Lists) (es : List ℕ) (s : Scalars) (n : ℕ) (k : Serves (machin
   abbrev here : Machine
   here = machineOf l es s n
 
-  no-state-refusal : refusalIn (stateRows here) ≡ 0
+  no-state-refusal : refusalIn (stateMeets here) ≡ 0
   unfolding stateRefusal
   no-state-refusal =
       let f = k .formed in
@@ -170,8 +170,7 @@ module _ (l : Lists) (es : List ℕ) (s : Scalars) (n : ℕ) (k : Serves (machin
     later = row5 (s .counts .calls) ∷ callRows c
 
     by-later : refusal here c ≡ refusalIn later
-    unfolding refusal all
-    by-later = rows-unmet (stateRows here) later refl no-state-refusal
+    by-later = refusal-rows here c ∙ rows-unmet (stateMeets here) later refl no-state-refusal
 
     pub refused-five : s .counts .calls ≡ countLimit → served here c ≡ steppedOf l es n (outcomeFrom s (answer.Refused 5))
     unfolding served

@@ -2,7 +2,7 @@
 use Prim.Native.Nat.{ℕ}
 use native.Mathlib.Omega.{arith}
 use mathlib.Core.Bool.{true, cond}
-use mathlib.Core.Path.{_≡_, refl}
+use mathlib.Core.Path.{_≡_, refl, sym, _∙_}
 use mathlib.Core.List.{List, [], _∷_}
 use lib.Dec.{eqb}
 use lib.ListN.{length}
@@ -15,7 +15,7 @@ use Rattle.values.specs.declared.Call.the-variants as calls
 use Rattle.values.proofs.Cases.{case}
 use Rattle.words.specs.Words.{Bytes}
 use Rattle.refusals.proofs.Rows.{row-passed, rows-passed, access-accepted}
-use Rattle.step.proofs.StateRefusals.{fitting}
+use Rattle.step.proofs.StateRefusals.{fitting, refusal-rows}
 use Rattle.soundness_test.specs.Soundness.{sound}
 use Rattle.soundness_test.specs.Meaning.{linesOf}
 use Rattle.soundness_test.specs.Formed.{Formed}
@@ -25,7 +25,7 @@ use Rattle.soundness_laws.proofs.Reader.{sound-means, sound-of}
 use Rattle.soundness_laws.proofs.Holding.{Holding, Kept, Roomy, holding-formed, holding-sound}
 use Rattle.soundness_laws.proofs.AccessKept.{access-kept, counted-roomy}
 use Rattle.soundness_laws.proofs.Cp15Kept.{read-kept, write-kept}
-use Rattle.step.specs.Meets.{startRefusal, stateRows, refusal}
+use Rattle.step.specs.Meets.{startRefusal, stateMeets, refusal}
 use Rattle.step.specs.Start.{started}
 use Rattle.step.specs.Call.{done, served, Numbers}
 use Rattle.refusals.specs.Refusals.{lengthFits, storeFits, row1, row2, row5, callRows, callRefusal}
@@ -62,9 +62,8 @@ module _ (memory store : List ℕ) (mb : Bytes memory) (sb : Bytes store) (e : s
 -- ---- a call that is not refused
 
 pub call-accepted : (m : Machine) (c : Call) → refusal m c ≡ 0 → callRefusal c ≡ 0
-unfolding refusal all
 call-accepted m c h =
-    let k = rows-passed (stateRows m) (row5 (m .counts .calls) ∷ callRows c) refl h in
+    let k = rows-passed (stateMeets m) (row5 (m .counts .calls) ∷ callRows c) refl (sym (refusal-rows m c) ∙ h) in
     row-passed (row5 (m .counts .calls)) (callRows c) (omega arith) (k .1) .1
 
 pub done-kept : (m : Machine) (c : Call) → Roomy m → callRefusal c ≡ 0 → Numbers c → Kept m (done m c .machine)

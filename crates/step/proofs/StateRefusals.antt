@@ -2,20 +2,22 @@
 use Prim.Native.Nat.{ℕ, _%_, _≤_}
 use native.Mathlib.Omega.{arith}
 use mathlib.Core.Bool.{true, false}
-use mathlib.Core.Path.{_≡_, sym, _∙_}
-use mathlib.Core.List.{[], _∷_}
+use mathlib.Core.Path.{_≡_, refl, sym, _∙_}
+use mathlib.Core.List.{[], _∷_, _++_}
 use lib.Dec.{eqb, leb}
 use lib.ListN.{length}
 use borrow.Author.Tests.{eq-eqb, ne-eqb, le-leb, eqb-true, leb-true, not-false}
 use Rattle.values.specs.Rows.{firstMet}
 use Rattle.values.specs.declared.Call.{Call}
+use Rattle.values.specs.declared.Call.the-variants.{Read, Write}
+use Rattle.values.specs.declared.Call.the-variants as calls
 use Rattle.values.specs.declared.Answer.the-variants as answer
 use Rattle.values.proofs.Cases.{and-left, and-right, and-both}
 use Rattle.refusals.specs.Refusals.{refusalIn, lengthFits, storeFits, row1, row2, row3, row4, row5, callRows}
 use Rattle.refusals.proofs.Rows.{row-passed, rows-met}
 use Rattle.machine.specs.Machine.{Machine, memoryOf, storeOf, steppedFrom}
 use Rattle.soundness_test.specs.Soundness.{sound}
-use Rattle.step.specs.Meets.{stateRows, stateRefusal, refusal}
+use Rattle.step.specs.Meets.{stateMeets, stateRefusal, refusal}
 use Rattle.step.specs.Call.{served}
 
 -- a length that fits, and back
@@ -90,9 +92,16 @@ accepts m h =
       size = eqb-true (m .size) n (not-false (eqb (m .size) n) (h4 .0));
     }
 
+-- the rows that a call meets: those of the state, then 5, then those that the call alone decides
+pub refusal-rows : (m : Machine) (c : Call) → refusal m c ≡ refusalIn (stateMeets m ++ (row5 (m .counts .calls) ∷ callRows c))
+unfolding refusal
+refusal-rows m (calls.Access a) = refl
+refusal-rows m (Read t) = refl
+refusal-rows m (Write t v) = refl
+
 -- a call on a machine that one of 1 to 4 holds of is refused by that number
 pub state-refused : (m : Machine) (c : Call) (n : ℕ) → n ≡ stateRefusal m → (n ≡ 0 → ⊥) → served m c ≡ steppedFrom m (answer.Refused n)
-unfolding served refusal stateRefusal
+unfolding served stateRefusal
 state-refused m c n e z =
-    let f : refusal m c ≡ n = rows-met (stateRows m) (row5 (m .counts .calls) ∷ callRows c) (λ h. z (e ∙ h)) ∙ sym e in
+    let f : refusal m c ≡ n = refusal-rows m c ∙ rows-met (stateMeets m) (row5 (m .counts .calls) ∷ callRows c) (λ h. z (e ∙ h)) ∙ sym e in
     rw (f, ne-eqb n 0 z)

@@ -30,7 +30,7 @@ fn done(
 ) -> Outcome
     requires { ⌜ (now table ≡ rightsTable) × TlbReady (now entries) s
         × SideReady (lists (now memory) (now words) (now bytes) (now lines) (now pointers) (now store)) s
-        × (s .cp15 .registers .control < 8192) × (refused.callRefusal c ≡ 0) ⌝ }
+        × (s .cp15 .registers .control < 0x2000) × (refused.callRefusal c ≡ 0) ⌝ }
     ensures { λ r.
         ⌜ ((size : ℕ)
         → steppedOf (lists (now (memory .exit)) (now (words .exit)) (now (bytes .exit)) (now (lines .exit)) (now (pointers .exit)) (now (store .exit)))

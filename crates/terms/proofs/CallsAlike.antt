@@ -18,10 +18,10 @@ use Rattle.refusals.proofs.Rows.{rows-unmet, access-accepted}
 use Rattle.machine.specs.Machine.{Machine, memoryOf, withCounts}
 use Rattle.plain.specs.Plain.{Plain, plainReach, plainDone, plainRefusal, counted, plainly}
 use Rattle.soundness_laws.proofs.Holding.{Holding, holding-of}
-use Rattle.step.specs.Meets.{stateRows, stateRefusal, refusal}
+use Rattle.step.specs.Meets.{stateMeets, stateRefusal, refusal}
 use Rattle.step.specs.Call.{done, served, Numbers}
 use Rattle.step.proofs.SoundKept.{call-accepted, sound-kept}
-use Rattle.step.proofs.StateRefusals.{lengths-fit, not-state-refused}
+use Rattle.step.proofs.StateRefusals.{lengths-fit, not-state-refused, refusal-rows}
 use Rattle.terms.specs.History.{History, afterServed, after}
 use Rattle.terms.specs.Rules.{AccessAllowed, ServedAllowed, Allowed}
 use Rattle.terms.proofs.Invariant.{Agrees}
@@ -46,7 +46,7 @@ module _ (m : Machine) (p : Plain) (h : History) (g : Agrees m p h) where
 
   shared : Shared n m₁ p₁ h
   shared =
-      let b : m .cp15 .registers .base / 16384 * 16384 ≡ m .cp15 .registers .base = holds .registers .base in
+      let b : m .cp15 .registers .base / 0x4000 * 0x4000 ≡ m .cp15 .registers .base = holds .registers .base in
       let e : m .cp15 .registers .base ≡ p .registers .base = ap (λ r. r .base) (g .registers) in
       record {
         registers = g .registers;
@@ -78,10 +78,10 @@ module _ (m : Machine) (p : Plain) (h : History) (g : Agrees m p h) where
   module _ (c : Call) (q : Numbers c) (r : Allowed p h c) where
     -- refusals 1 to 4 do not hold, and the others are decided by the count of calls and by the call alone
     refusal-same : refusal m c ≡ plainRefusal p c
-    unfolding refusal plainRefusal stateRefusal all
+    unfolding plainRefusal stateRefusal all
     refusal-same =
         let f = g .formed in
-        rows-unmet (stateRows m) (row5 (m .counts .calls) ∷ callRows c) refl
+        refusal-rows m c ∙ rows-unmet (stateMeets m) (row5 (m .counts .calls) ∷ callRows c) refl
         (sym (not-state-refused m (lengths-fit n (f .memory-lines) (f .memory-short)) (f .store-long) (g .is-sound) (g .size)))
         ∙ ap (λ (x : ℕ). refusalIn (row5 x ∷ callRows c)) (g .calls)
 

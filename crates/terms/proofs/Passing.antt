@@ -35,7 +35,7 @@ pub record Passes (n : ℕ) (m : Machine) (p : Plain) (h : History) (a : Access)
   pub shared : Shared n m p h
   pub here : h .reached (virtualLine (cleared a)) (physicalLine (l .address)) ≡ true
   pub width : isWidth (a .width) ≡ true
-  pub within : l .address .0 % 4096 ≡ cleared a .0 % 4096
+  pub within : l .address .0 % 0x1000 ≡ cleared a .0 % 0x1000
 
 module _ (n : ℕ) (m : Machine) (p : Plain) (h : History) (a : Access) (l : Place) (k : Passes n m p h a l) where
   -- the word aborts on both machines or answers on both

@@ -25,9 +25,9 @@ module _ (a b : VirtualAddress) where
   unfolding covers
   covered-large d v h = let e = eqb-true (b .0 / 0x10000 * 0x10000) (a .0 / 0x10000 * 0x10000) h in omega arith
 
-  pub covered-small : (d v : ℕ) → covers b (smallEntry d v a) ≡ true → b .0 / 4096 ≡ a .0 / 4096
+  pub covered-small : (d v : ℕ) → covers b (smallEntry d v a) ≡ true → b .0 / 0x1000 ≡ a .0 / 0x1000
   unfolding covers
-  covered-small d v h = let e = eqb-true (b .0 / 4096 * 4096) (a .0 / 4096 * 4096) h in omega arith
+  covered-small d v h = let e = eqb-true (b .0 / 0x1000 * 0x1000) (a .0 / 0x1000 * 0x1000) h in omega arith
 
   -- ---- the words that the two walks read
 
@@ -36,7 +36,7 @@ module _ (a b : VirtualAddress) where
   first-address-same base h = rw h
 
   -- the same level 2 word, or one of the same aligned group of sixteen
-  pub second-address-same : (w : ℕ) → b .0 / 4096 ≡ a .0 / 4096 → secondAddress w b ≡ secondAddress w a
+  pub second-address-same : (w : ℕ) → b .0 / 0x1000 ≡ a .0 / 0x1000 → secondAddress w b ≡ secondAddress w a
   second-address-same w h = rw h
 
   pub second-address-group : (w : ℕ) → b .0 / 0x10000 ≡ a .0 / 0x10000 → secondAddress w b .0 / 64 ≡ secondAddress w a .0 / 64

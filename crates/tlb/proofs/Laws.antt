@@ -28,16 +28,16 @@ module _ (va : VirtualAddress) (w : ℕ) where
   covers-invalid h = let e : w / 1 % 2 ≡ 0 = omega arith in rw e
 
   module _ (h : w % 2 ≡ 0 → ⊥) where
-    pub covers-section : w / 8 % 32 ≡ 0 → covers va (entryOf w) ≡ eqb (va .0 / 0x100000 * 0x100000) (w / 0x100000000000 * 4096)
+    pub covers-section : w / 8 % 32 ≡ 0 → covers va (entryOf w) ≡ eqb (va .0 / 0x100000 * 0x100000) (w / 0x100000000000 * 0x1000)
     unfolding covers entryOf
     covers-section s = let e : w / 1 % 2 ≡ 1 = omega arith in rw (e, s)
 
-    pub covers-large : w / 8 % 32 ≡ 1 → covers va (entryOf w) ≡ eqb (va .0 / 0x10000 * 0x10000) (w / 0x100000000000 * 4096)
+    pub covers-large : w / 8 % 32 ≡ 1 → covers va (entryOf w) ≡ eqb (va .0 / 0x10000 * 0x10000) (w / 0x100000000000 * 0x1000)
     unfolding covers entryOf
     covers-large s = let e : w / 1 % 2 ≡ 1 = omega arith in rw (e, s)
 
     pub covers-small : (w / 8 % 32 ≡ 0 → ⊥) → (w / 8 % 32 ≡ 1 → ⊥)
-        → covers va (entryOf w) ≡ eqb (va .0 / 4096 * 4096) (w / 0x100000000000 * 4096)
+        → covers va (entryOf w) ≡ eqb (va .0 / 0x1000 * 0x1000) (w / 0x100000000000 * 0x1000)
     unfolding covers entryOf
     covers-small s t = let e : w / 1 % 2 ≡ 1 = omega arith in rw (e, ne-eqb (w / 8 % 32) 0 s, ne-eqb (w / 8 % 32) 1 t)
 
@@ -52,7 +52,7 @@ module _ (e : Entry) (va : VirtualAddress) where
   unfolding translated
   translated-large s = rw s
 
-  pub translated-small : (e .size ≡ 0 → ⊥) → (e .size ≡ 1 → ⊥) → translated e va ≡ record { 0 = e .pbase + va .0 % 4096 }
+  pub translated-small : (e .size ≡ 0 → ⊥) → (e .size ≡ 1 → ⊥) → translated e va ≡ record { 0 = e .pbase + va .0 % 0x1000 }
   unfolding translated
   translated-small s t = rw (ne-eqb (e .size) 0 s, ne-eqb (e .size) 1 t)
 
@@ -60,11 +60,11 @@ module _ (e : Entry) (va : VirtualAddress) where
   unfolding apOf
   ap-section s = let z : e .aps / 1 ≡ e .aps = omega arith in rw (s, z)
 
-  pub ap-large : e .size ≡ 1 → apOf e va ≡ e .aps / 2 ^ (2 * (va .0 / 16384 % 4)) % 4
+  pub ap-large : e .size ≡ 1 → apOf e va ≡ e .aps / 2 ^ (2 * (va .0 / 0x4000 % 4)) % 4
   unfolding apOf
   ap-large s = rw s
 
-  pub ap-small : (e .size ≡ 0 → ⊥) → (e .size ≡ 1 → ⊥) → apOf e va ≡ e .aps / 2 ^ (2 * (va .0 / 1024 % 4)) % 4
+  pub ap-small : (e .size ≡ 0 → ⊥) → (e .size ≡ 1 → ⊥) → apOf e va ≡ e .aps / 2 ^ (2 * (va .0 / 0x400 % 4)) % 4
   unfolding apOf
   ap-small s t = rw (ne-eqb (e .size) 0 s, ne-eqb (e .size) 1 t)
 

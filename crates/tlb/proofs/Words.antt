@@ -27,7 +27,7 @@ word-entry w =
       field-and-above w 1 2,
     ) (div-one w)
   where
-    whole : (n : ℕ) → n * 4096 / 4096 ≡ n
+    whole : (n : ℕ) → n * 0x1000 / 0x1000 ≡ n
     whole n = omega arith
 
 -- no two words stand for one entry, no two lists of words for one list of entries

@@ -11,7 +11,7 @@ keyOf w = w / 0x100000000000 * 0x100000000000 + w / 8 % 32 * 8 + w % 2
 unfoldable pub keysOf : VirtualAddress → Keys
 keysOf va =
     record {
-      section = va .0 / 4096 / 256 * 0x10000000000000 + 1;
-      large = va .0 / 4096 / 16 * 0x1000000000000 + 9;
-      small = va .0 / 4096 * 0x100000000000 + 17;
+      section = va .0 / 0x1000 / 0x100 * 0x10000000000000 + 1;
+      large = va .0 / 0x1000 / 0x10 * 0x1000000000000 + 9;
+      small = va .0 / 0x1000 * 0x100000000000 + 17;
     }

@@ -10,18 +10,18 @@ entryOf w =
     record {
       valid = bit w 0;
       size = w / 8 % 32;
-      vbase = w / 0x100000000000 * 4096;
-      pbase = w / 0x1000000 % 0x100000 * 4096;
-      domain = w / 256 % 256;
-      aps = w / 0x10000 % 256;
+      vbase = w / 0x100000000000 * 0x1000;
+      pbase = w / 0x1000000 % 0x100000 * 0x1000;
+      domain = w / 0x100 % 0x100;
+      aps = w / 0x10000 % 0x100;
       cacheable = bit w 1;
       bufferable = bit w 2;
     }
 
 unfoldable pub wordOf : Entry → ℕ
 wordOf e =
-    number (e .valid) + 2 * (number (e .cacheable) + 2 * (number (e .bufferable) + 2 * (e .size + 32 * (e .domain + 256 * (e .aps
-    + 256 * (e .pbase / 4096 + 0x100000 * (e .vbase / 4096)))))))
+    number (e .valid) + 2 * (number (e .cacheable) + 2 * (number (e .bufferable) + 2 * (e .size + 32 * (e .domain + 0x100 * (e .aps
+    + 0x100 * (e .pbase / 0x1000 + 0x100000 * (e .vbase / 0x1000)))))))
 
 -- the entries that words stand for
 abbrev pub entriesOf : List ℕ → List Entry

@@ -13,11 +13,11 @@ use Rattle.values.specs.declared.Search.{Search}
 
 -- the part of an address that an entry of a size translates: VA[31:20], VA[31:16], VA[31:12]
 abbrev pub baseOf : ℕ → ℕ → ℕ
-baseOf size a = cond (eqb size 0) (a / 0x100000 * 0x100000) (cond (eqb size 1) (a / 0x10000 * 0x10000) (a / 4096 * 4096))
+baseOf size a = cond (eqb size 0) (a / 0x100000 * 0x100000) (cond (eqb size 1) (a / 0x10000 * 0x10000) (a / 0x1000 * 0x1000))
 
 -- the part that it leaves
 abbrev pub withinOf : ℕ → ℕ → ℕ
-withinOf size a = cond (eqb size 0) (a % 0x100000) (cond (eqb size 1) (a % 0x10000) (a % 4096))
+withinOf size a = cond (eqb size 0) (a % 0x100000) (cond (eqb size 1) (a % 0x10000) (a % 0x1000))
 
 -- an entry covers an address
 unfoldable pub covers : VirtualAddress → Entry → Bool
@@ -33,7 +33,7 @@ translated e va = record { 0 = e .pbase + withinOf (e .size) (va .0) }
 
 -- "permission by VA[15:14]" (large page), "permission by VA[11:10]" (small page); AP0 serves a section
 abbrev pub quarterOf : ℕ → ℕ → ℕ
-quarterOf size a = cond (eqb size 0) 0 (cond (eqb size 1) (a / 16384 % 4) (a / 1024 % 4))
+quarterOf size a = cond (eqb size 0) 0 (cond (eqb size 1) (a / 0x4000 % 4) (a / 0x400 % 4))
 
 unfoldable pub apOf : Entry → VirtualAddress → ℕ
 apOf e va = e .aps / 2 ^ (2 * quarterOf (e .size) (va .0)) % 4

@@ -19,10 +19,10 @@ pub fn entry_of(w: u64) -> Entry
     Entry {
         valid: w % 2 == 1,
         size: (w / 8 % 32) as u32,
-        vbase: (w / 0x100000000000 * 4096) as u32,
-        pbase: (w / 0x1000000 % 0x100000 * 4096) as u32,
-        domain: (w / 256 % 256) as u32,
-        aps: (w / 0x10000 % 256) as u32,
+        vbase: (w / 0x100000000000 * 0x1000) as u32,
+        pbase: (w / 0x1000000 % 0x100000 * 0x1000) as u32,
+        domain: (w / 0x100 % 0x100) as u32,
+        aps: (w / 0x10000 % 0x100) as u32,
         cacheable: w / 2 % 2 == 1,
         bufferable: w / 4 % 2 == 1,
     }
@@ -33,8 +33,8 @@ pub fn word_of(e: Entry) -> u64
     requires { ⌜ InRange e ⌝ }
     ensures { λ r. ⌜ r ≡ wordOf e ⌝ }
 {
-    let bases = (e.pbase / 4096) as u64 + 0x100000 * ((e.vbase / 4096) as u64);
-    let high = e.domain as u64 + 256 * (e.aps as u64 + 256 * bases);
+    let bases = (e.pbase / 0x1000) as u64 + 0x100000 * ((e.vbase / 0x1000) as u64);
+    let high = e.domain as u64 + 0x100 * (e.aps as u64 + 0x100 * bases);
     let valid = values::bit_number(e.valid) as u64;
     let cacheable = values::bit_number(e.cacheable) as u64;
     let bufferable = values::bit_number(e.bufferable) as u64;
@@ -49,14 +49,14 @@ fn covers(w: u64, va: VirtualAddress) -> bool
         return false;
     }
     let size = w / 8 % 32;
-    let vbase = (w / 0x100000000000 * 4096) as u32;
+    let vbase = (w / 0x100000000000 * 0x1000) as u32;
     if size == 0 {
         return va.0 / 0x100000 * 0x100000 == vbase;
     }
     if size == 1 {
         return va.0 / 0x10000 * 0x10000 == vbase;
     }
-    va.0 / 4096 * 4096 == vbase
+    va.0 / 0x1000 * 0x1000 == vbase
 }
 
 // The bits of a word that say what it covers: whether it is valid, its size, its virtual base.
@@ -76,9 +76,9 @@ pub struct Keys {
 fn keys_of(va: VirtualAddress) -> Keys
     ensures { λ r. ⌜ r ≡ keysOf va ⌝ }
 {
-    let page = (va.0 / 4096) as u64;
+    let page = (va.0 / 0x1000) as u64;
     Keys {
-        section: page / 256 * 0x10000000000000 + 1,
+        section: page / 0x100 * 0x10000000000000 + 1,
         large: page / 16 * 0x1000000000000 + 9,
         small: page * 0x100000000000 + 17,
     }
@@ -131,7 +131,7 @@ pub fn translated(e: Entry, va: VirtualAddress) -> PhysicalAddress
     if e.size == 1 {
         return PhysicalAddress(e.pbase + va.0 % 0x10000);
     }
-    PhysicalAddress(e.pbase + va.0 % 4096)
+    PhysicalAddress(e.pbase + va.0 % 0x1000)
 }
 
 // The access permission that an entry has for an address.
@@ -142,9 +142,9 @@ pub fn ap_of(e: Entry, va: VirtualAddress) -> u32
         return e.aps % 4;
     }
     if e.size == 1 {
-        return (e.aps >> (2 * (va.0 / 16384 % 4))) % 4;
+        return (e.aps >> (2 * (va.0 / 0x4000 % 4))) % 4;
     }
-    (e.aps >> (2 * (va.0 / 1024 % 4))) % 4
+    (e.aps >> (2 * (va.0 / 0x400 % 4))) % 4
 }
 
 // A mapping goes to the place of the pointer.

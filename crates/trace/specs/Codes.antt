@@ -31,6 +31,10 @@ unsignedOf (negsuc n) = 0xFFFFFFFF - n
 abbrev pub kindUnit : ℕ
 kindUnit = 0x100000000
 
+-- 3 × 2^32: what numbers that are no call answer
+abbrev pub noCall : ℕ
+noCall = 3 * kindUnit
+
 -- kind × 2^32 + value: kind 0 is served, with the value, a signed one as 32 bits; 1 a fault, with FSR; 2 refused, with the refusal's number
 abbrev pub codeOf : Answer → ℕ
 codeOf a =

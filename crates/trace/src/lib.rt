@@ -12,7 +12,10 @@ use values::Transfer;
 use values::VirtualAddress;
 
 // What an answer's kind counts in its number: the value below it has 32 bits.
-const KIND_UNIT: u64 = 0x100000000;
+pub const KIND_UNIT: u64 = 0x100000000;
+
+// What numbers that are no call answer: 3 × KIND_UNIT.
+pub const NO_CALL: u64 = 0x300000000;
 
 fn access_of(kind: Kind, privileged: u32, width: u32, address: u32) -> Access
     ensures { λ r. ⌜ r ≡ spec.accessOf kind privileged width address ⌝ }

@@ -61,7 +61,7 @@ module _ (r : Registers) (memory : Physical) (va : VirtualAddress) where
   walked-clear h = rw h
 
 -- an address and its translation are the same within a small page
-pub translated-within : (e : Entry) (va : VirtualAddress) → InRange e → translated e va .0 % 4096 ≡ va .0 % 4096
+pub translated-within : (e : Entry) (va : VirtualAddress) → InRange e → translated e va .0 % 0x1000 ≡ va .0 % 0x1000
 translated-within e va r =
     case (eqb (e .size) 0)
     (λ t. rw (translated-section e va (eqb-true (e .size) 0 t)) (let h = r .section (eqb-true (e .size) 0 t) in omega arith))
@@ -71,7 +71,7 @@ translated-within e va r =
     (λ u. rw (translated-small e va (eqb-false (e .size) 0 t) (eqb-false (e .size) 1 u)) (omega (arith, r .pbase))))
 
 -- an access inside a memory whose length is a multiple of 32 lies in it whole: its place is as far in a small page as its cleared address
-pub access-fits : (a : Access) (pa n : ℕ) → isWidth (a .width) ≡ true → pa % 4096 ≡ cleared a .0 % 4096 → pa < n → n % 32 ≡ 0
+pub access-fits : (a : Access) (pa n : ℕ) → isWidth (a .width) ≡ true → pa % 0x1000 ≡ cleared a .0 % 0x1000 → pa < n → n % 32 ≡ 0
     → pa + a .width ≤ n
 unfolding cleared
 access-fits a pa n w e h m =

@@ -19,7 +19,7 @@ Ranged (Failed s d) = d < 16
 -- a place's domain is in range, and its address is the virtual one within a small page
 pub record PlaceRanged (va : VirtualAddress) (p : Place) : Type 0 where
   pub domain : p .domain < 16
-  pub within : p .address .0 % 4096 ≡ va .0 % 4096
+  pub within : p .address .0 % 0x1000 ≡ va .0 % 0x1000
 
 abbrev pub CheckedRanged : VirtualAddress → Checked → Type 0
 CheckedRanged va (Passed p) = PlaceRanged va p

@@ -104,9 +104,9 @@ checked r a (Failed s d) = Denied s d
 -- ---- what is decided of an access before anything changes
 
 -- which mapping serves, and whether alignment, translation and rights pass
-abbrev pub decision : Translation → Checked → Decision
-decision mapping checked = record { mapping = mapping; checked = checked }
+abbrev pub decisionFrom : Translation → Checked → Decision
+decisionFrom mapping checked = record { mapping = mapping; checked = checked }
 
 -- "Alignment: with A set, ... faults", status 1, domain 0, before translation: no mapping is asked for
 unfoldable pub decided : Registers → Access → Translation → Decision
-decided r a t = cond (alignmentFaults r a) (decision Flat (Denied Alignment 0)) (decision t (checked r a t))
+decided r a t = cond (alignmentFaults r a) (decisionFrom Flat (Denied Alignment 0)) (decisionFrom t (checked r a t))

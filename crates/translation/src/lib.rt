@@ -103,7 +103,7 @@ pub fn of_walk(m: Mapping) -> Translation
 
 // The plain machine's translation: it walks for every access.
 pub fn walked_only(memory: &[u8], r: Registers, va: VirtualAddress) -> Translation
-    requires { ⌜ r .base % 16384 ≡ 0 ⌝ }
+    requires { ⌜ r .base % 0x4000 ≡ 0 ⌝ }
     ensures { λ t. ⌜ Is t (spec.walkedOnly r (physical (now (memory .entry))) va) ⌝ }
 {
     if values::mmu(r) {

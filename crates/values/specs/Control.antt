@@ -26,11 +26,11 @@ module _ (r : Registers) where
 
 -- "are kept ... others read as zero and are ignored on write": bits 0 to 3, 8, 9 and 12
 unfoldable pub kept : ℕ → ℕ
-kept v = v % 16 + v / 256 % 4 * 256 + v / 4096 % 2 * 4096
+kept v = v % 0x10 + v / 0x100 % 4 * 0x100 + v / 0x1000 % 2 * 0x1000
 
 -- "4 to 6 read as one"
 unfoldable pub controlRead : ℕ → ℕ
-controlRead c = c + 112
+controlRead c = c + 0x70
 
 -- "Valid combinations (000, table 8): none of M, C, W; M; M and W; all three"
 unfoldable pub listed : ℕ → Bool

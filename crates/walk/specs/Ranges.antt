@@ -10,9 +10,9 @@ pub record InRange (e : Entry) : Type 0 where
   pub size : e .size < 3
   pub domain : e .domain < 16
   pub aps : e .aps < 256
-  pub vbase : e .vbase % 4096 ≡ 0
+  pub vbase : e .vbase % 0x1000 ≡ 0
   pub vbase-low : e .vbase < 0x100000000
-  pub pbase : e .pbase % 4096 ≡ 0
+  pub pbase : e .pbase % 0x1000 ≡ 0
   pub pbase-low : e .pbase < 0x100000000
   pub section : e .size ≡ 0 → e .pbase % 0x100000 ≡ 0
   pub large : e .size ≡ 1 → e .pbase % 0x10000 ≡ 0

@@ -20,7 +20,7 @@ firstAddress base va = record { 0 = base + 4 * (va .0 / 0x100000) }
 
 -- "01 second-level table at [31:10]", "Level 2 word: table plus four times VA[19:12]"
 abbrev pub secondAddress : ℕ → VirtualAddress → PhysicalAddress
-secondAddress w va = record { 0 = w / 1024 * 1024 + 4 * (va .0 / 4096 % 256) }
+secondAddress w va = record { 0 = w / 0x400 * 0x400 + 4 * (va .0 / 0x1000 % 0x100) }
 
 -- "domain [8:5]"
 abbrev pub domainOf : ℕ → ℕ
@@ -35,7 +35,7 @@ sectionEntry w va =
       vbase = va .0 / 0x100000 * 0x100000;
       pbase = w / 0x100000 * 0x100000;
       domain = domainOf w;
-      aps = w / 1024 % 4 * 85;
+      aps = w / 0x400 % 4 * 0x55;
       cacheable = bit w 3;
       bufferable = bit w 2;
     }
@@ -49,7 +49,7 @@ largeEntry domain w va =
       vbase = va .0 / 0x10000 * 0x10000;
       pbase = w / 0x10000 * 0x10000;
       domain = domain;
-      aps = w / 16 % 256;
+      aps = w / 0x10 % 0x100;
       cacheable = bit w 3;
       bufferable = bit w 2;
     }
@@ -60,10 +60,10 @@ smallEntry domain w va =
     record {
       valid = true;
       size = 2;
-      vbase = va .0 / 4096 * 4096;
-      pbase = w / 4096 * 4096;
+      vbase = va .0 / 0x1000 * 0x1000;
+      pbase = w / 0x1000 * 0x1000;
       domain = domain;
-      aps = w / 16 % 256;
+      aps = w / 0x10 % 0x100;
       cacheable = bit w 3;
       bufferable = bit w 2;
     }

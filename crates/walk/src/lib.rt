@@ -31,7 +31,7 @@ fn level_two(domain: u32, va: VirtualAddress, w: u32) -> Mapping
             vbase: va.0 / 0x10000 * 0x10000,
             pbase: w / 0x10000 * 0x10000,
             domain,
-            aps: w / 16 % 256,
+            aps: w / 0x10 % 0x100,
             cacheable: w / 8 % 2 == 1,
             bufferable: w / 4 % 2 == 1,
         });
@@ -40,10 +40,10 @@ fn level_two(domain: u32, va: VirtualAddress, w: u32) -> Mapping
         return Mapping::Found(Entry {
             valid: true,
             size: 2,
-            vbase: va.0 / 4096 * 4096,
-            pbase: w / 4096 * 4096,
+            vbase: va.0 / 0x1000 * 0x1000,
+            pbase: w / 0x1000 * 0x1000,
             domain,
-            aps: w / 16 % 256,
+            aps: w / 0x10 % 0x100,
             cacheable: w / 8 % 2 == 1,
             bufferable: w / 4 % 2 == 1,
         });
@@ -56,7 +56,7 @@ fn second_level(memory: &[u8], va: VirtualAddress, w: u32) -> Mapping
     ensures { λ r. ⌜ Is r (second (walks.domainOf w) va (descriptorAt (physical (now (memory .entry))) (walks.secondAddress w va))) ⌝ }
 {
     let domain = w / 32 % 16;
-    let at = PhysicalAddress(w / 1024 * 1024 + 4 * (va.0 / 4096 % 256));
+    let at = PhysicalAddress(w / 0x400 * 0x400 + 4 * (va.0 / 0x1000 % 0x100));
     let d = bus::descriptor_of(memory, at);
     match d {
         Descriptor::Word(v) => level_two(domain, va, v),
@@ -79,7 +79,7 @@ fn level_one(memory: &[u8], va: VirtualAddress, w: u32) -> Mapping
             vbase: va.0 / 0x100000 * 0x100000,
             pbase: w / 0x100000 * 0x100000,
             domain: w / 32 % 16,
-            aps: w / 1024 % 4 * 85,
+            aps: w / 0x400 % 4 * 0x55,
             cacheable: w / 8 % 2 == 1,
             bufferable: w / 4 % 2 == 1,
         });
@@ -89,7 +89,7 @@ fn level_one(memory: &[u8], va: VirtualAddress, w: u32) -> Mapping
 
 // The walk for a virtual address, by the table base.
 pub fn walk(memory: &[u8], base: u32, va: VirtualAddress) -> Mapping
-    requires { ⌜ base % 16384 ≡ 0 ⌝ }
+    requires { ⌜ base % 0x4000 ≡ 0 ⌝ }
     ensures { λ r. ⌜ Is r (walks.walk (physical (now (memory .entry))) base va) ⌝ }
 {
     let at = PhysicalAddress(base + 4 * (va.0 / 0x100000));

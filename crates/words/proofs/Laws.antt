@@ -36,7 +36,7 @@ module _ (m : List ℕ) (a : ℕ) where
     store-two = refl
 
     pub store-four : stored 4 m a v
-        ≡ set (set (set (set m a (v % 256)) (a + 1) (v / 256 % 256)) (a + 2) (v / 0x10000 % 256)) (a + 3) (v / 0x1000000 % 256)
+        ≡ set (set (set (set m a (v % 256)) (a + 1) (v / 256 % 256)) (a + 2) (v / 0x10000 % 0x100)) (a + 3) (v / 0x1000000 % 0x100)
     unfolding stored
     store-four =
         let e : a + 1 + 1 ≡ a + 2 = omega arith in

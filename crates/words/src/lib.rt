@@ -46,7 +46,7 @@ fn half(bytes: &[u8], at: usize) -> u32
     requires { ⌜ at + 2 ≤ length (now bytes) ⌝ }
     ensures { λ r. ⌜ Loaded 2 (now (bytes .entry)) at r ⌝ }
 {
-    byte(bytes, at) + byte(bytes, at + 1) * 256
+    byte(bytes, at) + byte(bytes, at + 1) * 0x100
 }
 
 // A word.
@@ -55,7 +55,7 @@ pub fn word(bytes: &[u8], at: usize) -> u32
     ensures { λ r. ⌜ Loaded 4 (now (bytes .entry)) at r ⌝ }
 {
     byte(bytes, at)
-        + byte(bytes, at + 1) * 256
+        + byte(bytes, at + 1) * 0x100
         + byte(bytes, at + 2) * 0x10000
         + byte(bytes, at + 3) * 0x1000000
 }
@@ -78,18 +78,18 @@ fn put_half(bytes: &mut [u8], at: usize, value: u32)
     requires { ⌜ at + 2 ≤ length (now bytes) ⌝ }
     ensures { λ r. ⌜ now (bytes .exit) ≡ stored 2 (now (bytes .entry)) at value ⌝ }
 {
-    bytes[at] = (value % 256) as u8;
-    bytes[at + 1] = (value / 256 % 256) as u8;
+    bytes[at] = (value % 0x100) as u8;
+    bytes[at + 1] = (value / 0x100 % 0x100) as u8;
 }
 
 fn put_word(bytes: &mut [u8], at: usize, value: u32)
     requires { ⌜ at + 4 ≤ length (now bytes) ⌝ }
     ensures { λ r. ⌜ now (bytes .exit) ≡ stored 4 (now (bytes .entry)) at value ⌝ }
 {
-    bytes[at] = (value % 256) as u8;
-    bytes[at + 1] = (value / 256 % 256) as u8;
-    bytes[at + 2] = (value / 0x10000 % 256) as u8;
-    bytes[at + 3] = (value / 0x1000000 % 256) as u8;
+    bytes[at] = (value % 0x100) as u8;
+    bytes[at + 1] = (value / 0x100 % 0x100) as u8;
+    bytes[at + 2] = (value / 0x10000 % 0x100) as u8;
+    bytes[at + 3] = (value / 0x1000000 % 0x100) as u8;
 }
 
 // A number of 1, 2 or 4 bytes takes its place.
@@ -105,7 +105,7 @@ pub fn store(bytes: &mut [u8], at: usize, width: u32, value: u32)
         put_half(bytes, at, value);
         return;
     }
-    bytes[at] = (value % 256) as u8;
+    bytes[at] = (value % 0x100) as u8;
 }
 
 // A number of 1, 2 or 4 bytes as a signed number.
@@ -126,10 +126,10 @@ fn signed_byte(x: u32) -> i32
     requires { ⌜ x < 256 ⌝ }
     ensures { λ r. ⌜ r ≡ signedOf 1 x ⌝ }
 {
-    if x < 128 {
+    if x < 0x80 {
         x as i32
     } else {
-        !((255 - x) as i32)
+        !((0xFF - x) as i32)
     }
 }
 

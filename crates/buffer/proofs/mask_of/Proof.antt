@@ -10,7 +10,7 @@ shl-result c = search needs
 
 returns : tie.Need-returns
 returns c = let a = c .before .args in
-    let s = shifted 15 (a .offset) 4096 (power-low (a .offset) 12 (omega (arith, c .before .pre .1, c .if1 .taken))) (omega arith) in
+    let s = shifted 15 (a .offset) 0x1000 (power-low (a .offset) 12 (omega (arith, c .before .pre .1, c .if1 .taken))) (omega arith) in
     (rw (c .if1 .taken) (s .0), s .1)
 
 shl-result-2 : tie.Need-shl-result-2

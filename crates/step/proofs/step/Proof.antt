@@ -53,7 +53,7 @@ done-requires c κs =
       subst (λ (s : Scalars). TlbReady es s) e (tlb-ready l es (a .s) n (start .pre .3) low),
       subst (λ (s : Scalars). SideReady l s) e (side-ready l es (a .s) n (start .pre .3) low
           (fits-all l es (a .s) n (start .pre .3) (start .pre .1) (start .pre .2))),
-      subst (λ (s : Scalars). s .cp15 .registers .control < 8192) e (control-low l es (a .s) n (start .pre .3)),
+      subst (λ (s : Scalars). s .cp15 .registers .control < 0x2000) e (control-low l es (a .s) n (start .pre .3)),
       sym (after-refusal .refusal .ensures) ∙ else2 .if2 .left,
     )
 
