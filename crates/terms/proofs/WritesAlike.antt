@@ -14,12 +14,15 @@ use Rattle.values.specs.declared.Answer.the-variants as answer
 use Rattle.values.proofs.Cases.{case, and-left, and-right}
 use Rattle.registers.specs.Pairs.{isPair}
 use Rattle.registers.specs.Registers.{readOf, writtenOf}
-use Rattle.machine.specs.Machine.{Machine}
-use Rattle.cp15.specs.Operations.{flushesDcache, flushesLine, cleansLine, drains, flushesTlb, dropsEntries, operated, read, write}
+use Rattle.tlb.specs.Tlb as tlbs
+use Rattle.cache.specs.Dcache.{lineFlushed, allFlushed}
+use Rattle.machine.specs.Machine.{Machine, withCache, withEntries}
+use Rattle.cp15.specs.Operations.{flushesDcache, flushesLine, cleansLine, drains, flushesTlb, dropsEntries}
+use Rattle.cp15.specs.Operations.{cleanedLine, drainedAll, operated, read, write}
 use Rattle.plain.specs.Plain.{Plain, plainRead, plainWrite}
 use Rattle.terms.specs.History.{Stage, never, stored, cleaned, drained, flushed, History, afterClean, afterDrain}
 use Rattle.terms.specs.History.{afterWrite, afterLineClean, afterBufferDrain, afterWholeTlbFlush, afterWholeFlush, afterBaseWrite}
-use Rattle.terms.specs.Rules.{isFlushed, R3}
+use Rattle.terms.specs.Rules.{isStored, isFlushed, R3}
 use Rattle.terms.proofs.Invariant.{SideAgrees, TlbAgrees}
 use Rattle.terms.proofs.TlbAgreement.{tlb-flushed, tlb-stale, tlb-dropped, tlb-history}
 use Rattle.terms.proofs.Cleans.{drained-side, cleaned-side}
@@ -97,112 +100,118 @@ drain-flushed cleaned e = e
 drain-flushed drained e = e
 drain-flushed flushed e = e
 
-module _ (n : ℕ) (m : Machine) (p : Plain) (h : History) (k : Shared n m p h) (t : Transfer) (v : ℕ) where
-  abbrev va : VirtualAddress
-  va = record { 0 = v }
-
+module _ (n : ℕ) (m : Machine) (p : Plain) (h : History) (k : Shared n m p h) where
   -- what an operation leaves
   record Leaves (m′ : Machine) (g : History) : Type 0 where
     calls : m′ .counts .calls ≡ m .counts .calls
     side : SideAgrees (m′ .side) (p .memory) g
     tlb : TlbAgrees (m′ .entries) (p .registers .base) (p .memory) g
 
-  same : Leaves m h
-  same = record { calls = refl; side = k .side; tlb = k .tlb }
-
   -- entries as they are, in a history in which no more words may be walked
   kept-tlb : (g : History) → g .baseStale ≡ h .baseStale → ((w : ℕ) → isFlushed (g .wordStage w) ≡ true → isFlushed (h .wordStage w) ≡ true)
       → TlbAgrees (m .entries) (p .registers .base) (p .memory) g
   kept-tlb g e f = tlb-history (p .registers .base) (p .memory) h (m .entries) (k .tlb) g e f
 
-  operated-leaves : R3 h t v → eqb (t .register) 2 ≡ false → Leaves (operated m t va) (afterWrite h t v)
-  unfolding operated afterWrite
-  operated-leaves r e =
-      case (flushesDcache t)
-      (λ a.
-      rw (e, a)
-      (record {
+  -- ---- one law for each operation
+
+  nothing-leaves : Leaves m h
+  nothing-leaves = record { calls = refl; side = k .side; tlb = k .tlb }
+
+  dcache-flush-leaves : ((l : ℕ) → isStored (h .lineStage l) ≡ false) → Leaves (withCache m (allFlushed (m .side .cache))) (afterWholeFlush h)
+  dcache-flush-leaves r =
+      record {
         calls = refl;
-        side = all-flushed-side n (m .side) (k .side-is) (p .memory) h (k .side) (λ l. r l .0 a);
+        side = all-flushed-side n (m .side) (k .side-is) (p .memory) h (k .side) r;
         tlb = kept-tlb (afterWholeFlush h) refl (λ w q. q);
-      }))
-      (λ a.
-      case (flushesLine t)
-      (λ b.
-      rw (e, a, b, line-not-cleans t b, line-not-drains t b, line-not-tlb t b)
-      (record {
-        calls = refl;
-        side = line-flushed-side n (m .side) (k .side-is) (p .memory) h (k .side) va (λ l. r l .1 b);
-        tlb = k .tlb;
-      }))
-      (λ b.
-      case (cleansLine t)
-      (λ c.
-      rw (e, a, b, c)
-      (record {
-        calls = refl;
-        side = cleaned-side n (m .side) (k .side-is) (p .memory) h (k .side) va;
-        tlb =
-            kept-tlb (afterLineClean h (virtualLine va)) refl (λ w q. clean-flushed (eqb (h .through (w / 8)) (virtualLine va)) (h .wordStage w) q);
-      }))
-      (λ c.
-      case (drains t)
-      (λ d.
-      rw (e, a, b, c, d)
-      (record {
+      }
+
+  drain-leaves : Leaves (drainedAll m) (afterBufferDrain h)
+  drain-leaves =
+      record {
         calls = refl;
         side = drained-side n (m .side) (k .side-is) (p .memory) h (k .side);
         tlb = kept-tlb (afterBufferDrain h) refl (λ w q. drain-flushed (h .wordStage w) q);
-      }))
-      (λ d.
-      case (flushesTlb t)
-      (λ f.
-      rw (e, a, b, c, d, f)
-      (record {
+      }
+
+  tlb-flush-leaves : Leaves (withEntries m tlbs.flushed) (afterWholeTlbFlush h)
+  tlb-flush-leaves =
+      record {
         calls = refl;
         side = tlb-flushed-side (m .side) (p .memory) h (k .side);
         tlb = tlb-flushed (p .registers .base) (p .memory) (afterWholeTlbFlush h);
-      }))
-      (λ f.
-      case (dropsEntries t)
-      (λ g.
-      rw (e, a, b, c, d, f, g)
-      (record { calls = refl; side = k .side; tlb = tlb-dropped (p .registers .base) (p .memory) h (m .entries) (k .tlb) va }))
-      (λ g. rw (e, a, b, c, d, f, g) same))))))
+      }
 
-  base-leaves : t .register ≡ 2 → (operated m t va ≡ m) × (afterWrite h t v ≡ afterBaseWrite h)
-  unfolding operated afterWrite
-  base-leaves e = (rw (not-seven t e, not-eight t e), rw (eq-eqb (t .register) 2 e))
+  -- those at a virtual address
+  module _ (va : VirtualAddress) where
+    line-flush-leaves : ((l : ℕ) → h .through l ≡ virtualLine va → isStored (h .lineStage l) ≡ false)
+        → Leaves (withCache m (lineFlushed (m .side .cache) va)) h
+    line-flush-leaves r =
+        record { calls = refl; side = line-flushed-side n (m .side) (k .side-is) (p .memory) h (k .side) va r; tlb = k .tlb }
 
-  pub write-step : R3 h t v → Alike n (write m t v) (plainWrite p t v) (afterWrite h t v)
-  unfolding write plainWrite
-  write-step r =
-      case (eqb (t .register) 2)
-      (λ e.
-      let q = eqb-true (t .register) 2 e in
-      let b = base-leaves q in
-      let g = afterWrite h t v in
-      record {
-        same-answer = refl;
-        registers = ap (λ (x : Registers). writtenOf x (t .register) v) (k .registers);
-        calls = ap (λ (x : Machine). x .counts .calls) (b .0) ∙ k .calls;
-        long = k .long;
-        side =
-            subst (λ (x : Machine). SideAgrees (x .side) (p .memory) g) (sym (b .0))
-            (subst (λ (x : History). SideAgrees (m .side) (p .memory) x) (sym (b .1))
-            (record { cache = k .side .cache; under = k .side .under; words = k .side .words; lines = k .side .lines }));
-        tlb =
-            tlb-stale (writtenOf (p .registers) (t .register) v .base) (p .memory) g (operated m t va .entries) (ap (λ (x : History). x .baseStale) (b .1));
-      })
-      (λ e.
-      let o = operated-leaves r e in
-      record {
-        same-answer = refl;
-        registers = ap (λ (x : Registers). writtenOf x (t .register) v) (k .registers);
-        calls = o .calls ∙ k .calls;
-        long = k .long;
-        side = o .side;
-        tlb =
-            subst (λ (x : ℕ). TlbAgrees (operated m t va .entries) x (p .memory) (afterWrite h t v))
-            (sym (written-base (p .registers) (t .register) v e)) (o .tlb);
-      })
+    clean-leaves : Leaves (cleanedLine m va) (afterLineClean h (virtualLine va))
+    clean-leaves =
+        record {
+          calls = refl;
+          side = cleaned-side n (m .side) (k .side-is) (p .memory) h (k .side) va;
+          tlb = kept-tlb (afterLineClean h (virtualLine va)) refl (λ w q. clean-flushed (eqb (h .through (w / 8)) (virtualLine va)) (h .wordStage w) q);
+        }
+
+    drop-leaves : Leaves (withEntries m (tlbs.dropped (m .entries) va)) h
+    drop-leaves = record { calls = refl; side = k .side; tlb = tlb-dropped (p .registers .base) (p .memory) h (m .entries) (k .tlb) va }
+
+  module _ (t : Transfer) (v : ℕ) where
+    abbrev va : VirtualAddress
+    va = record { 0 = v }
+
+    -- ---- the operation that a write asks for
+
+    operated-leaves : R3 h t v → eqb (t .register) 2 ≡ false → Leaves (operated m t va) (afterWrite h t v)
+    unfolding operated afterWrite
+    operated-leaves r e =
+        case (flushesDcache t) (λ a. rw (e, a) (dcache-flush-leaves (λ l. r l .0 a)))
+        (λ a.
+        case (flushesLine t) (λ b. rw (e, a, b, line-not-cleans t b, line-not-drains t b, line-not-tlb t b) (line-flush-leaves va (λ l. r l .1 b)))
+        (λ b.
+        case (cleansLine t) (λ c. rw (e, a, b, c) (clean-leaves va))
+        (λ c.
+        case (drains t) (λ d. rw (e, a, b, c, d) drain-leaves)
+        (λ d.
+        case (flushesTlb t) (λ f. rw (e, a, b, c, d, f) tlb-flush-leaves)
+        (λ f. case (dropsEntries t) (λ g. rw (e, a, b, c, d, f, g) (drop-leaves va)) (λ g. rw (e, a, b, c, d, f, g) nothing-leaves))))))
+
+    base-leaves : t .register ≡ 2 → (operated m t va ≡ m) × (afterWrite h t v ≡ afterBaseWrite h)
+    unfolding operated afterWrite
+    base-leaves e = (rw (not-seven t e, not-eight t e), rw (eq-eqb (t .register) 2 e))
+
+    pub write-step : R3 h t v → Alike n (write m t v) (plainWrite p t v) (afterWrite h t v)
+    unfolding write plainWrite
+    write-step r =
+        case (eqb (t .register) 2)
+        (λ e.
+        let q = eqb-true (t .register) 2 e in
+        let b = base-leaves q in
+        let g = afterWrite h t v in
+        record {
+          same-answer = refl;
+          registers = ap (λ (x : Registers). writtenOf x (t .register) v) (k .registers);
+          calls = ap (λ (x : Machine). x .counts .calls) (b .0) ∙ k .calls;
+          long = k .long;
+          side =
+              subst (λ (x : Machine). SideAgrees (x .side) (p .memory) g) (sym (b .0))
+              (subst (λ (x : History). SideAgrees (m .side) (p .memory) x) (sym (b .1))
+              (record { cache = k .side .cache; under = k .side .under; words = k .side .words; lines = k .side .lines }));
+          tlb =
+              tlb-stale (writtenOf (p .registers) (t .register) v .base) (p .memory) g (operated m t va .entries) (ap (λ (x : History). x .baseStale) (b .1));
+        })
+        (λ e.
+        let o = operated-leaves r e in
+        record {
+          same-answer = refl;
+          registers = ap (λ (x : Registers). writtenOf x (t .register) v) (k .registers);
+          calls = o .calls ∙ k .calls;
+          long = k .long;
+          side = o .side;
+          tlb =
+              subst (λ (x : ℕ). TlbAgrees (operated m t va .entries) x (p .memory) (afterWrite h t v))
+              (sym (written-base (p .registers) (t .register) v e)) (o .tlb);
+        })
