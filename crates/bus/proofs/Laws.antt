@@ -4,7 +4,7 @@ use native.Mathlib.Omega.{arith}
 use mathlib.Core.Bool.{true, false}
 use mathlib.Core.Path.{_≡_}
 use lib.ListN.{length}
-use borrow.Author.Tests.{ltb-false, lt-ltb}
+use borrow.Author.Tests.{ltb-false, lt-ltb, le-ltb}
 use Rattle.values.specs.Addresses.{wordOf}
 use Rattle.values.specs.declared.PhysicalAddress.{PhysicalAddress}
 use Rattle.words.specs.Words.{valueAt}
@@ -17,6 +17,11 @@ module _ (m : Physical) (pa : PhysicalAddress) where
   pub answers : aborts m pa ≡ false → pa .0 / 4 * 4 + 4 ≤ length (m .bytes)
   unfolding aborts
   answers h = ltb-false (length (m .bytes)) (wordOf pa * 4 + 4) h
+
+  -- and a word inside memory answers
+  pub inside-answers : pa .0 / 4 * 4 + 4 ≤ length (m .bytes) → aborts m pa ≡ false
+  unfolding aborts
+  inside-answers h = le-ltb (length (m .bytes)) (wordOf pa * 4 + 4) h
 
   -- behind the end of memory every word aborts
   pub aborts-behind : length (m .bytes) ≤ pa .0 → aborts m pa ≡ true

@@ -1,18 +1,15 @@
 -- What a load and a store that pass share: the words that abort, the line that is hit, and faults.
-use Prim.Native.Nat.{ℕ, _+_, _*_, _/_, _%_, _<_, _≤_}
+use Prim.Native.Nat.{ℕ, _/_, _%_, _<_}
 use native.Mathlib.Omega.{arith}
 use mathlib.Core.Bool.{true, false}
 use mathlib.Core.Path.{_≡_, sym, _∙_}
-use lib.ListN.{length}
-use borrow.Author.Tests.{le-ltb}
-use Rattle.values.specs.Addresses.{virtualLine, physicalLine, wordOf}
-use Rattle.values.specs.declared.PhysicalAddress.{PhysicalAddress}
+use Rattle.values.specs.Addresses.{virtualLine, physicalLine}
 use Rattle.values.specs.declared.Access.{Access}
 use Rattle.values.specs.declared.Status.{Status}
 use Rattle.values.specs.declared.Search.the-variants.{At}
 use Rattle.words.specs.Words.{isWidth}
-use Rattle.bus.specs.Physical.{Physical, aborts}
-use Rattle.bus.proofs.Laws.{answers, aborts-same}
+use Rattle.bus.specs.Physical.{aborts}
+use Rattle.bus.proofs.Laws.{answers, inside-answers, aborts-same}
 use Rattle.cache.specs.Dcache.{find}
 use Rattle.cache.proofs.Finds.{found}
 use Rattle.translation.specs.Alignment.{cleared}
@@ -24,11 +21,6 @@ use Rattle.terms.specs.History.{History}
 use Rattle.terms.proofs.Invariant.{at}
 use Rattle.terms.proofs.HeldLines.{found-frame}
 use Rattle.terms.proofs.Alike.{Shared, Alike, alike-by, faulted-alike}
-
--- a word inside memory answers
-inside-answers : (m : Physical) (pa : PhysicalAddress) → pa .0 / 4 * 4 + 4 ≤ length (m .bytes) → aborts m pa ≡ false
-unfolding aborts
-inside-answers m pa h = le-ltb (length (m .bytes)) (wordOf pa * 4 + 4) h
 
 -- an access of a width, at the place l, once the TLB has changed and the line reached stands in the history
 pub record Passes (n : ℕ) (m : Machine) (p : Plain) (h : History) (a : Access) (l : Place) : Type 0 where
