@@ -9,7 +9,7 @@ use lib.Dec.{eqb}
 use lib.ListN.{length}
 use denote.Enum.Declared.{tagOf}
 use types.Run.{OneOf}
-use borrow.Author.Tests.{eqb-true, eqb-false, eq-eqb, ne-eqb}
+use borrow.Author.Tests.{eq-eqb, ne-eqb}
 use Rattle.values.specs.Control.{kept}
 use Rattle.values.specs.Counts.{countLimit}
 use Rattle.values.specs.Kinds.{isStore}
@@ -27,7 +27,6 @@ use Rattle.values.proofs.Cases.{case, clash}
 use Rattle.values.proofs.Kind as kinds
 use Rattle.words.specs.Words.{valueAt}
 use Rattle.words.specs.Signed.{loadAnswer}
-use Rattle.words.proofs.Widths.{is-one}
 use Rattle.bus.specs.Physical.{physical, aborts}
 use Rattle.bus.proofs.Laws.{answers}
 use Rattle.translation.specs.Alignment.{alignmentFaults, cleared}
@@ -39,6 +38,7 @@ use Rattle.translation.specs.declared.Translation.the-variants.{Flat}
 use Rattle.translation.specs.declared.Place.{Place}
 use Rattle.translation.specs.declared.Checked.{Checked}
 use Rattle.translation.specs.declared.Checked.the-variants.{Passed, Denied}
+use Rattle.translation.proofs.Laws.{in-word}
 use Rattle.registers.specs.Registers.{writtenOf}
 use Rattle.refusals.specs.Refusals.{row5, callRows, callRefusal}
 use Rattle.refusals.proofs.Rows.{row-met, row-unmet}
@@ -92,16 +92,10 @@ passed-load p a l (Store v) h = clash {b = true} refl h
 
 -- an access whose word answers lies in memory whole: no access crosses a word
 pub inside-fits : (memory : List ℕ) (a : Access) (l : Place) → Inside memory a l → l .address .0 + a .width ≤ length memory
-unfolding cleared
 inside-fits memory a l i =
     let h = answers (physical memory) (l .address) (i .answers) in
-    let e = i .placed .place .within in
-    case (eqb (a .width) 4)
-    (λ t. let k : a .width ≡ 4 = eqb-true (a .width) 4 t in let f = rw t at e in omega arith)
-    (λ t.
-    case (eqb (a .width) 2)
-    (λ u. let k : a .width ≡ 2 = eqb-true (a .width) 2 u in let f = rw (t, u) at e in omega arith)
-    (λ u. let k : a .width ≡ 1 = is-one (a .width) (i .placed .width) (eqb-false (a .width) 4 t) (eqb-false (a .width) 2 u) in omega arith))
+    let k = in-word a (l .address .0) (i .placed .width) (i .placed .place .within) in
+    omega arith
 
 -- ---- by what alignment, translation and rights give
 

@@ -4,30 +4,20 @@ use native.Mathlib.Omega.{arith}
 use mathlib.Core.Bool.{true}
 use mathlib.Core.Path.{_≡_, refl}
 use mathlib.Core.List.{List}
-use lib.Dec.{eqb}
 use lib.ListN.{length}
-use borrow.Author.Tests.{eqb-true, eqb-false}
 use Rattle.values.specs.declared.Access.{Access}
-use Rattle.values.proofs.Cases.{case}
 use Rattle.values.specs.declared.VirtualAddress.{VirtualAddress}
 use Rattle.values.specs.declared.Search.the-variants.{At}
 use Rattle.cache.specs.Dcache.{find}
 use Rattle.cache.specs.Packing.{linesOf}
 use Rattle.cache.proofs.Finds.{found}
 use Rattle.words.specs.Words.{isWidth}
-use Rattle.words.proofs.Widths.{is-one}
 use Rattle.translation.specs.Alignment.{cleared}
+use Rattle.translation.proofs.Laws.{in-word}
 
 -- an access lies in one block of sixteen bytes, so in one line: its place is as far in a small page as its cleared address
 pub in-block : (a : Access) (pa : ℕ) → isWidth (a .width) ≡ true → pa % 0x1000 ≡ cleared a .0 % 0x1000 → pa % 16 + a .width ≤ 16
-unfolding cleared
-in-block a pa w e =
-    case (eqb (a .width) 4)
-    (λ t. let k : a .width ≡ 4 = eqb-true (a .width) 4 t in let f = rw t at e in omega arith)
-    (λ t.
-    case (eqb (a .width) 2)
-    (λ u. let k : a .width ≡ 2 = eqb-true (a .width) 2 u in let f = rw (t, u) at e in omega arith)
-    (λ u. let k : a .width ≡ 1 = is-one (a .width) w (eqb-false (a .width) 4 t) (eqb-false (a .width) 2 u) in omega arith))
+in-block a pa w e = let h = in-word a pa w e in omega arith
 
 pub in-line : (a : Access) → isWidth (a .width) ≡ true → cleared a .0 % 32 + a .width ≤ 32
 in-line a w = let h = in-block a (cleared a .0) w refl in omega arith

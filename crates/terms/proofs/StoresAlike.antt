@@ -1,10 +1,8 @@
 -- A store that passes: hit, buffered store, dropped store, direct store, or fault.
 use Prim.Native.Nat.{ℕ, _+_, _%_, _≤_}
 use native.Mathlib.Omega.{arith}
-use mathlib.Core.Bool.{true, false, _||_}
+use mathlib.Core.Bool.{true, false}
 use mathlib.Core.Path.{_≡_, refl, sym, _∙_, ap, subst}
-use lib.Dec.{eqb}
-use borrow.Author.Tests.{eqb-true}
 use Rattle.values.specs.Counts.{hit}
 use Rattle.values.specs.declared.Access.{Access}
 use Rattle.values.specs.declared.Counts.{Counts}
@@ -12,8 +10,8 @@ use Rattle.values.specs.declared.Registers.{Registers}
 use Rattle.values.specs.declared.Answer.the-variants as answer
 use Rattle.values.specs.declared.Search.{Search}
 use Rattle.values.specs.declared.Search.the-variants.{At, Nothing}
-use Rattle.values.proofs.Cases.{case, or-cases}
-use Rattle.words.specs.Words.{stored, isWidth}
+use Rattle.values.proofs.Cases.{case}
+use Rattle.words.specs.Words.{stored}
 use Rattle.words.proofs.Laws.{length-stored}
 use Rattle.bus.specs.Physical.{aborts}
 use Rattle.buffer.specs.Buffer.{withMemory, drained, buffered}
@@ -21,6 +19,7 @@ use Rattle.cache.specs.Dcache.{Side, sideFrom, find, hitStore}
 use Rattle.translation.specs.Alignment.{cleared}
 use Rattle.translation.specs.Faults.{buffers, otherStatus}
 use Rattle.translation.specs.declared.Place.{Place}
+use Rattle.translation.proofs.Laws.{in-word}
 use Rattle.machine.specs.Machine.{Machine, physicalOf, withSide, withCounts, Stepped, answersZero}
 use Rattle.stores.specs.Stores.{storeHit, storeBuffered, storeDirect, storeMiss, store}
 use Rattle.stores.proofs.Laws.{miss-buffered, miss-direct, miss-dropped, miss-faults, store-found, store-none}
@@ -36,15 +35,6 @@ use Rattle.terms.proofs.Alike.{Alike, alike-by, still-alike}
 use Rattle.terms.proofs.Passing.{Passes, plain-aborts, answers-inside, hit-answers, both-fault}
 use Rattle.translation.specs.declared.Checked.the-variants.{Passed}
 
--- an access of a width lies inside a word
-in-word : (a : Access) → isWidth (a .width) ≡ true → cleared a .0 % 4 + a .width ≤ 4
-unfolding cleared
-in-word a h =
-    or-cases (eqb (a .width) 1) (eqb (a .width) 2 || eqb (a .width) 4) h (λ t. let e = eqb-true (a .width) 1 t in omega arith)
-    (λ g.
-    or-cases (eqb (a .width) 2) (eqb (a .width) 4) g (λ t. let e : a .width ≡ 2 = eqb-true (a .width) 2 t in rw e (omega arith))
-    (λ t. let e : a .width ≡ 4 = eqb-true (a .width) 4 t in rw e (omega arith)))
-
 module _ (n : ℕ) (m : Machine) (p : Plain) (h : History) (a : Access) (v : ℕ) (l : Place) (k : Passes n m p h a l) where
   abbrev pa : ℕ
   pa = l .address .0
@@ -53,7 +43,7 @@ module _ (n : ℕ) (m : Machine) (p : Plain) (h : History) (a : Access) (v : ℕ
   after = afterStore h (plainPhysical p) (cleared a) (Passed l)
 
   fits : pa % 4 + a .width ≤ 4
-  fits = let q = in-word a (k .width) in let w = k .within in omega arith
+  fits = in-word a pa (k .width) (k .within)
 
   -- ---- the word answers: the store is made
 

@@ -70,14 +70,18 @@ translated-within e va r =
     (λ u. rw (translated-large e va (eqb-true (e .size) 1 u)) (let h = r .large (eqb-true (e .size) 1 u) in omega arith))
     (λ u. rw (translated-small e va (eqb-false (e .size) 0 t) (eqb-false (e .size) 1 u)) (omega (arith, r .pbase))))
 
--- an access inside a memory whose length is a multiple of 32 lies in it whole: its place is as far in a small page as its cleared address
-pub access-fits : (a : Access) (pa n : ℕ) → isWidth (a .width) ≡ true → pa % 0x1000 ≡ cleared a .0 % 0x1000 → pa < n → n % 32 ≡ 0
-    → pa + a .width ≤ n
+-- an access lies in one word: its place is as far in a small page as its cleared address
+pub in-word : (a : Access) (pa : ℕ) → isWidth (a .width) ≡ true → pa % 0x1000 ≡ cleared a .0 % 0x1000 → pa % 4 + a .width ≤ 4
 unfolding cleared
-access-fits a pa n w e h m =
+in-word a pa w e =
     case (eqb (a .width) 4)
     (λ t. let k : a .width ≡ 4 = eqb-true (a .width) 4 t in let f = rw t at e in omega arith)
     (λ t.
     case (eqb (a .width) 2)
     (λ u. let k : a .width ≡ 2 = eqb-true (a .width) 2 u in let f = rw (t, u) at e in omega arith)
     (λ u. let k : a .width ≡ 1 = is-one (a .width) w (eqb-false (a .width) 4 t) (eqb-false (a .width) 2 u) in omega arith))
+
+-- so one inside a memory whose length is a multiple of 32 lies in it whole
+pub access-fits : (a : Access) (pa n : ℕ) → isWidth (a .width) ≡ true → pa % 0x1000 ≡ cleared a .0 % 0x1000 → pa < n → n % 32 ≡ 0
+    → pa + a .width ≤ n
+access-fits a pa n w e h m = let k = in-word a pa w e in omega arith
