@@ -180,8 +180,8 @@ module _ (n : ℕ) (b : Backing) (k : BackingIs n b) (block : ℕ) (bytes : List
       → SettledAt (halfPushed b block bytes) pm x
   unfolding halfPushed
   settled-half pm x h s =
-      settled-pushed n b k pm x s (record { block = block; mask = 65535; bytes = bytes })
-      (λ t. h (eqb-true (x / 16) block (and-left (eqb (x / 16) block) (bit 65535 (x % 16)) t)))
+      settled-pushed n b k pm x s (record { block = block; mask = 0xFFFF; bytes = bytes })
+      (λ t. h (eqb-true (x / 16) block (and-left (eqb (x / 16) block) (bit 0xFFFF (x % 16)) t)))
 
 -- ---- a store buffered
 

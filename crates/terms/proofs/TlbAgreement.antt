@@ -70,13 +70,13 @@ in-group m w a b word g s =
 module _ (p : Plain) (aligned : p .registers .base % 4 ≡ 0) (a b : VirtualAddress) (e : Entry)
     (found : walk (plainPhysical p) (p .registers .base) a ≡ walked.Found e) (c : covers b e ≡ true) where
   -- the two addresses lie in one large page
-  one-page : e .size ≡ 1 → b .0 / 65536 ≡ a .0 / 65536
+  one-page : e .size ≡ 1 → b .0 / 0x10000 ≡ a .0 / 0x10000
   one-page z = go (finds (plainPhysical p) (p .registers .base) a e found)
     where
       size : (x : Entry) → e ≡ x → e .size ≡ x .size
       size x q = ap (λ (y : Entry). y .size) q
 
-      go : Finds (plainPhysical p) (p .registers .base) a e → b .0 / 65536 ≡ a .0 / 65536
+      go : Finds (plainPhysical p) (p .registers .base) a e → b .0 / 0x10000 ≡ a .0 / 0x10000
       go (by-section w d k q) = let n = size _ q in absurd (omega arith)
       go (by-large w v d k f j q) = covered-large a b (domainOf w) v (subst (λ (x : Entry). covers b x ≡ true) q c)
       go (by-small w v d k f j q) = let n = size _ q in absurd (omega arith)
