@@ -13,18 +13,18 @@ use Rattle.values.specs.declared.Transfer.{Transfer}
 use Rattle.values.specs.declared.Search.the-variants.{At, Nothing}
 use Rattle.values.specs.declared.Answer.the-variants as answer
 use Rattle.tlb.specs.Tlb.{flushed, dropped}
-use Rattle.tlb.specs.Packing.{entriesOf}
-use Rattle.buffer.specs.Buffer.{Backing, drained}
+use Rattle.buffer.specs.Buffer.{drained}
 use Rattle.buffer.specs.Packing.{backingOf}
 use Rattle.buffer.specs.Ranges.{Left}
-use Rattle.cache.specs.Dcache.{Dcache, Side, dcacheFrom, sideFrom, find, lineFlushed, flushedAt, allFlushed, cleaned, cleanedAt}
+use Rattle.cache.specs.Dcache.{Dcache, Side, dcacheFrom, find, lineFlushed, flushedAt, allFlushed, cleaned, cleanedAt}
 use Rattle.cache.specs.Packing.{linesOf, sideOf, SentIs, HoldsLine}
 use Rattle.cache.proofs.Lines.{line-at}
 use Rattle.cache.proofs.Finds.{found}
 use Rattle.registers.specs.Pairs.{isPair}
 use Rattle.registers.specs.Registers.{writtenOf}
 use Rattle.values.specs.Counts.{countLimit, sent}
-use Rattle.machine.specs.Machine.{Machine, machineFrom, withCache, withEntries, Stepped, answersZero}
+use Rattle.machine.specs.Machine.{Machine, withCache, withEntries, Stepped, answersZero}
+use Rattle.machine.specs.Machine as machines
 use Rattle.machine.specs.Machine as machines
 use Rattle.machine.specs.Scalars.{withCounts, withUsed, withRegisters, outcomeFrom}
 use Rattle.machine.specs.declared.Scalars.{Scalars}
@@ -121,7 +121,7 @@ module _ (es : List ℕ) (s : Scalars) (n : ℕ) (l : Lists) (va : VirtualAddres
   clean-left k i used halves r e f g = rw (g, f .count, e) (ap made (f .side))
     where
       made : Side → Machine
-      made t = machineFrom (s .cp15) (entriesOf es) t (sent (s .counts) (cleanedAt side-of (At i) .halves)) n
+      made t = machines.withCounts (machines.withSide (machineOf l es s n) t) (sent (s .counts) (cleanedAt side-of (At i) .halves))
 
   pub none-clean : find (linesOf (l .lines)) va ≡ Nothing → machineOf l es s n ≡ cleanedLine (machineOf l es s n) va
   unfolding cleaned cleanedAt
@@ -139,8 +139,7 @@ pub drain-left : (es : List ℕ) (s : Scalars) (n : ℕ) (l : Lists) (m ws : Lis
     → Left m ws bs 0 (drained (backingOf (l .memory) (l .words) (l .bytes) (s .used)))
     → machineOf (lists m ws bs (l .lines) (l .pointers) (l .store)) es (withUsed s 0) n ≡ drainedAll (machineOf l es s n)
 drain-left es s n l m ws bs e =
-    ap (λ (b : Backing). machineFrom (s .cp15) (entriesOf es) (sideFrom (dcacheFrom (linesOf (l .lines)) (l .pointers) (l .store)) b) (s .counts) n)
-    (e .same)
+    ap (machines.withBacking (machineOf l es s n)) (e .same)
 
 -- a write, once its operation is done
 pub write-left : (es fs : List ℕ) (s u : Scalars) (n : ℕ) (l k : Lists) (t : Transfer) (v : ℕ) (r : Registers) (q : Scalars)

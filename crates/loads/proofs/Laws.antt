@@ -17,14 +17,15 @@ use Rattle.bus.proofs.Laws.{answers}
 use Rattle.buffer.specs.Buffer.{Backing, ready}
 use Rattle.buffer.specs.Packing.{backingOf}
 use Rattle.buffer.specs.Ranges.{Left}
-use Rattle.cache.specs.Dcache.{Side, find, hitLoad, victim, sideFrom}
+use Rattle.cache.specs.Dcache.{Side, find, hitLoad, victim}
 use Rattle.cache.specs.Dcache as dcache
 use Rattle.cache.specs.Packing.{sideOf, SentIs, FillsLine}
 use Rattle.cache.proofs.Lines.{line-at}
 use Rattle.translation.specs.Alignment.{cleared}
 use Rattle.translation.specs.Faults.{fills, fillStatus, otherStatus}
 use Rattle.translation.specs.declared.Place.{Place}
-use Rattle.machine.specs.Machine.{Machine, machineFrom, physicalOf, Stepped, steppedFrom}
+use Rattle.machine.specs.Machine.{Machine, physicalOf, Stepped, steppedFrom}
+use Rattle.machine.specs.Machine as machines
 use Rattle.machine.specs.Scalars.{outcomeFrom, withCounts, withUsed}
 use Rattle.machine.specs.Lists.{Lists, machineOf, steppedOf}
 use Rattle.machine.specs.Ready.{SideReady}
@@ -52,8 +53,8 @@ module _ (es : List ℕ) (s : Scalars) (n : ℕ) (a : Access) where
       made : Side → Stepped
       made t =
           steppedFrom
-          (machineFrom (s .cp15) (machineOf l es s n .entries) t
-          (sent (filled (s .counts)) (dcache.filled (machineOf l es s n .side) (cleared a) (p .address) .halves)) n)
+          (machines.withCounts (machines.withSide (machineOf l es s n) t)
+          (sent (filled (s .counts)) (dcache.filled (machineOf l es s n .side) (cleared a) (p .address) .halves)))
           (loadAnswer (a .kind) (a .width) (hitLoad (t .cache) (victim (machineOf l es s n .side .cache) (cleared a)) (cleared a) (a .width)))
 
   pub uncached-left : (l k : Lists) (p : Place) (v used : ℕ) (r : Scalars) (x : Answer)
@@ -66,7 +67,7 @@ module _ (es : List ℕ) (s : Scalars) (n : ℕ) (a : Access) where
     where
       made : Backing → Stepped
       made b =
-          steppedFrom (machineFrom (s .cp15) (machineOf l es s n .entries) (sideFrom (machineOf l es s n .side .cache) b) (s .counts) n)
+          steppedFrom (machines.withBacking (machineOf l es s n) b)
           (loadAnswer (a .kind) (a .width) (valueAt (a .width) (b .memory) (p .address .0)))
 
 -- what a fill asks holds, for an access inside memory

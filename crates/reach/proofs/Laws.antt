@@ -23,7 +23,7 @@ use Rattle.tlb.specs.Packing.{entryOf, entriesOf}
 use Rattle.tlb.proofs.Packing.{entry-at}
 use Rattle.translation.specs.Alignment.{alignmentFaults}
 use Rattle.translation.specs.Faults.{faultSet}
-use Rattle.translation.specs.Translation.{translation, ofWalk, decided, decision, checked}
+use Rattle.translation.specs.Translation.{translation, ofWalk, decided, decisionFrom, checked}
 use Rattle.translation.specs.declared.Translation.{Translation}
 use Rattle.translation.specs.declared.Translation.the-variants.{Flat, Held, Walked, Failed}
 use Rattle.translation.specs.declared.Checked.the-variants.{Denied}
@@ -64,11 +64,11 @@ module _ (ws : List ℕ) (va : VirtualAddress) where
 -- ---- what is decided
 
 module _ (r : Registers) (a : Access) (t : Translation) where
-  pub decided-unaligned : alignmentFaults r a ≡ true → decided r a t ≡ decision Flat (Denied Alignment 0)
+  pub decided-unaligned : alignmentFaults r a ≡ true → decided r a t ≡ decisionFrom Flat (Denied Alignment 0)
   unfolding decided
   decided-unaligned h = rw h
 
-  pub decided-by : alignmentFaults r a ≡ false → decided r a t ≡ decision t (checked r a t)
+  pub decided-by : alignmentFaults r a ≡ false → decided r a t ≡ decisionFrom t (checked r a t)
   unfolding decided
   decided-by h = rw h
 

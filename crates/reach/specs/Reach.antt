@@ -11,7 +11,7 @@ use Rattle.translation.specs.Translation.{translation, decided, entriesAfter, p
 use Rattle.translation.specs.Faults.{faultSet}
 use Rattle.translation.specs.declared.Translation.{Translation}
 use Rattle.translation.specs.declared.Decision.{Decision}
-use Rattle.machine.specs.Machine.{Machine, machineFrom, physicalOf, withRegisters, Stepped, steppedFrom}
+use Rattle.machine.specs.Machine.{Machine, physicalOf, withCp15, withRegisters, withEntries, withCounts, Stepped, steppedFrom}
 
 -- which mapping serves, from TLB or walk, and whether alignment, translation and rights pass: nothing changes
 unfoldable pub decision : Machine → Access → Decision
@@ -20,8 +20,9 @@ decision m a = let r = m .cp15 .registers in decided r a (translation (m .entrie
 -- the machine once TLB and misses have changed
 unfoldable pub committed : Machine → Translation → Machine
 committed m t =
-    machineFrom (withPointerOf (m .cp15) (pointerAfter (m .cp15 .pointer) t)) (entriesAfter (m .entries) (m .cp15 .pointer) t) (m .side)
-    (countsAfter (m .counts) t) (m .size)
+    let pointer = m .cp15 .pointer in
+    withCounts (withEntries (withCp15 m (withPointerOf (m .cp15) (pointerAfter pointer t))) (entriesAfter (m .entries) pointer t))
+    (countsAfter (m .counts) t)
 
 -- "A fault sets FSR, and FAR to the address given. Of the rest only the TLB and counts may change."
 unfoldable pub faulted : Machine → Status → ℕ → VirtualAddress → Stepped

@@ -9,7 +9,7 @@ use Rattle.values.specs.declared.Counts.{Counts}
 use Rattle.values.specs.declared.Entry.{Entry}
 use Rattle.buffer.specs.Buffer.{Backing}
 use Rattle.cache.specs.Dcache.{Dcache, Side, sideFrom}
-use Rattle.machine.specs.Machine.{Machine, machineFrom, withRegisters, withEntries, withSide, withCache, withBacking, withCounts}
+use Rattle.machine.specs.Machine.{Machine, withCp15, withRegisters, withEntries, withSide, withCache, withBacking, withCounts}
 use Rattle.soundness_laws.proofs.ScalarParts.{RegistersAre}
 use Rattle.soundness_laws.proofs.BackingKept.{BackingIs}
 use Rattle.soundness_laws.proofs.CacheKept.{CacheIs, SideIs}
@@ -19,7 +19,7 @@ use Rattle.soundness_laws.proofs.Holding.{Holding}
 module _ (n start : ℕ) (m : Machine) (h : Holding n start m) where
   -- all parts but the size; the counts may be any
   pub holding-with : (r : Registers) (p : ℕ) (es : List Entry) (s : Side) (c : Counts) → RegistersAre r → p ≤ 31 → length es ≡ 32 → EntriesAre es
-      → SideIs n s → Holding n start (machineFrom (cp15From r p) es s c (m .size))
+      → SideIs n s → Holding n start (withCounts (withSide (withEntries (withCp15 m (cp15From r p)) es) s) c)
   holding-with r p es s c rk pk el ek sk =
       record {
         size = h .size;

@@ -277,15 +277,15 @@ module _ (c : Counts) (lines : List Line) where
       fills-high h = rw (le-leb (c .misses) (c .calls) m, le-leb (c .hits) (c .calls) k, lt-leb (c .fills) (c .calls) h)
 
       module _ (f : c .fills ≤ c .calls) (dirty : ℕ) (e : dirty ≡ sum dirtyHalves lines) where
-        in-range : countsSound c lines ≡ leb (c .halves + dirty) (c .calls)
+        by-halves : countsSound c lines ≡ leb (c .halves + dirty) (c .calls)
         unfolding countsSound
-        in-range = rw (le-leb (c .misses) (c .calls) m, le-leb (c .hits) (c .calls) k, le-leb (c .fills) (c .calls) f, e)
+        by-halves = rw (le-leb (c .misses) (c .calls) m, le-leb (c .hits) (c .calls) k, le-leb (c .fills) (c .calls) f, e)
 
         pub dirty-high : c .calls < dirty → countsSound c lines ≡ false
-        dirty-high h = in-range ∙ lt-leb (c .halves + dirty) (c .calls) (omega arith)
+        dirty-high h = by-halves ∙ lt-leb (c .halves + dirty) (c .calls) (omega arith)
 
         pub halves-test : dirty ≤ c .calls → countsSound c lines ≡ leb (c .halves) (c .calls - dirty)
-        halves-test d = in-range ∙ sum-test (c .halves) dirty (c .calls) d
+        halves-test d = by-halves ∙ sum-test (c .halves) dirty (c .calls) d
 
 -- a conjunction of two tests, each by its meaning
 pub pair : {r a b x y : Bool} → r ≡ (a && b) → a ≡ x → b ≡ y → r ≡ (x && y)

@@ -6,7 +6,7 @@ use mathlib.Core.Path.{_≡_, refl, sym, _∙_, ap, subst}
 use mathlib.Core.List.{List, _∷_}
 use lib.ListN.{length, length-map, getD}
 use borrow.Author.Tests.{eq-eqb, ne-eqb}
-use Rattle.values.specs.Lists.{sum, all}
+use Rattle.values.specs.Lists.{sum}
 use Rattle.values.specs.Control.{kept}
 use Rattle.values.specs.Empty.{emptyEntry, emptyLine}
 use Rattle.values.specs.declared.Call.{Call}
@@ -28,7 +28,7 @@ use Rattle.soundness_test.specs.Meaning.{IsSound}
 use Rattle.soundness_laws.proofs.TlbKept.{in-range}
 use Rattle.soundness_laws.proofs.Reader.{sound-means}
 use Rattle.step.specs.Meets.{stateMeets, stateRefusal, refusal}
-use Rattle.step.proofs.StateRefusals.{not-state-refused, lengths-fit, refusal-rows}
+use Rattle.step.proofs.StateRefusals.{not-state-refused, lengths-fit, state-numbered, refusal-rows}
 use Rattle.step.specs.Call.{done, served}
 use Rattle.step.specs.Code.{Serves}
 use Rattle.refusals.specs.Refusals.{refusalIn, row5, callRows, callRefusal}
@@ -170,7 +170,7 @@ module _ (l : Lists) (es : List ℕ) (s : Scalars) (n : ℕ) (k : Serves (machin
     later = row5 (s .counts .calls) ∷ callRows c
 
     by-later : refusal here c ≡ refusalIn later
-    by-later = refusal-rows here c ∙ rows-unmet (stateMeets here) later refl no-state-refusal
+    by-later = refusal-rows here c ∙ rows-unmet (stateMeets here) later (state-numbered here) no-state-refusal
 
     pub refused-five : s .counts .calls ≡ countLimit → served here c ≡ steppedOf l es n (outcomeFrom s (answer.Refused 5))
     unfolding served

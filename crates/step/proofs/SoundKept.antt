@@ -7,7 +7,6 @@ use mathlib.Core.List.{List, [], _∷_}
 use lib.Dec.{eqb}
 use lib.ListN.{length}
 use borrow.Author.Tests.{eqb-true, not-false}
-use Rattle.values.specs.Lists.{all}
 use Rattle.values.specs.declared.Call.{Call}
 use Rattle.values.specs.Counts.{counted}
 use Rattle.values.specs.declared.Call.the-variants.{Read, Write}
@@ -15,7 +14,7 @@ use Rattle.values.specs.declared.Call.the-variants as calls
 use Rattle.values.proofs.Cases.{case}
 use Rattle.words.specs.Words.{Bytes}
 use Rattle.refusals.proofs.Rows.{row-passed, rows-passed, access-accepted}
-use Rattle.step.proofs.StateRefusals.{fitting, refusal-rows}
+use Rattle.step.proofs.StateRefusals.{fitting, state-numbered, refusal-rows}
 use Rattle.soundness_test.specs.Soundness.{sound}
 use Rattle.soundness_test.specs.Meaning.{linesOf}
 use Rattle.soundness_test.specs.Formed.{Formed}
@@ -63,7 +62,7 @@ module _ (memory store : List ℕ) (mb : Bytes memory) (sb : Bytes store) (e : s
 
 pub call-accepted : (m : Machine) (c : Call) → refusal m c ≡ 0 → callRefusal c ≡ 0
 call-accepted m c h =
-    let k = rows-passed (stateMeets m) (row5 (m .counts .calls) ∷ callRows c) refl (sym (refusal-rows m c) ∙ h) in
+    let k = rows-passed (stateMeets m) (row5 (m .counts .calls) ∷ callRows c) (state-numbered m) (sym (refusal-rows m c) ∙ h) in
     row-passed (row5 (m .counts .calls)) (callRows c) (omega arith) (k .1) .1
 
 pub done-kept : (m : Machine) (c : Call) → Roomy m → callRefusal c ≡ 0 → Numbers c → Kept m (done m c .machine)

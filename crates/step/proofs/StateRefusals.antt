@@ -7,6 +7,7 @@ use mathlib.Core.List.{[], _∷_, _++_}
 use lib.Dec.{eqb, leb}
 use lib.ListN.{length}
 use borrow.Author.Tests.{eq-eqb, ne-eqb, le-leb, eqb-true, leb-true, not-false}
+use Rattle.values.specs.Lists.{all}
 use Rattle.values.specs.Rows.{firstMet}
 use Rattle.values.specs.declared.Call.{Call}
 use Rattle.values.specs.declared.Call.the-variants.{Read, Write}
@@ -14,7 +15,7 @@ use Rattle.values.specs.declared.Call.the-variants as calls
 use Rattle.values.specs.declared.Answer.the-variants as answer
 use Rattle.values.proofs.Cases.{and-left, and-right, and-both}
 use Rattle.refusals.specs.Refusals.{refusalIn, lengthFits, storeFits, row1, row2, row3, row4, row5, callRows}
-use Rattle.refusals.proofs.Rows.{row-passed, rows-met}
+use Rattle.refusals.proofs.Rows.{Numbered, row-passed, rows-met}
 use Rattle.machine.specs.Machine.{Machine, memoryOf, storeOf, steppedFrom}
 use Rattle.soundness_test.specs.Soundness.{sound}
 use Rattle.step.specs.Meets.{stateMeets, stateRefusal, refusal}
@@ -91,6 +92,11 @@ accepts m h =
       is-sound = not-false (sound m) (h3 .0);
       size = eqb-true (m .size) n (not-false (eqb (m .size) n) (h4 .0));
     }
+
+-- none of them gives 0
+pub state-numbered : (m : Machine) → Numbered (stateMeets m)
+unfolding all
+state-numbered m = refl
 
 -- the rows that a call meets: those of the state, then 5, then those that the call alone decides
 pub refusal-rows : (m : Machine) (c : Call) → refusal m c ≡ refusalIn (stateMeets m ++ (row5 (m .counts .calls) ∷ callRows c))

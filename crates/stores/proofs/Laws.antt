@@ -16,13 +16,14 @@ use Rattle.bus.proofs.Laws.{answers}
 use Rattle.buffer.specs.Buffer.{Backing, withMemory, drained, buffered}
 use Rattle.buffer.specs.Packing.{backingOf}
 use Rattle.buffer.specs.Ranges.{Left, Stores}
-use Rattle.cache.specs.Dcache.{Dcache, dcacheFrom, sideFrom, find, hitStore}
+use Rattle.cache.specs.Dcache.{Dcache, dcacheFrom, find, hitStore}
 use Rattle.cache.specs.Packing.{linesOf}
 use Rattle.translation.specs.Alignment.{cleared}
 use Rattle.translation.specs.Faults.{buffers, otherStatus}
 use Rattle.translation.specs.Ranges.{PlaceRanged}
 use Rattle.translation.specs.declared.Place.{Place}
-use Rattle.machine.specs.Machine.{Machine, machineFrom, physicalOf, Stepped, answersZero}
+use Rattle.machine.specs.Machine.{Machine, physicalOf, Stepped, answersZero}
+use Rattle.machine.specs.Machine as machines
 use Rattle.machine.specs.Scalars.{outcomeFrom, withCounts, withUsed}
 use Rattle.machine.specs.Lists.{Lists, lists, machineOf, steppedOf}
 use Rattle.machine.specs.declared.Scalars.{Scalars}
@@ -45,11 +46,11 @@ module _ (es : List ℕ) (s : Scalars) (n : ℕ) (a : Access) (v : ℕ) (l : Lis
     where
       made : Dcache → Stepped
       made c =
-          answersZero (machineFrom (s .cp15) (machineOf l es s n .entries) (sideFrom c (machineOf l es s n .side .backing)) (hit (s .counts)) n)
+          answersZero (machines.withCounts (machines.withCache (machineOf l es s n) c) (hit (s .counts)))
 
   abbrev made-by : Backing → Stepped
   made-by b =
-      answersZero (machineFrom (s .cp15) (machineOf l es s n .entries) (sideFrom (machineOf l es s n .side .cache) b) (s .counts) n)
+      answersZero (machines.withBacking (machineOf l es s n) b)
 
   module _ (p : Place) (r : Scalars) where
     pub direct-left : (m k ws : List ℕ) (bs : List (List ℕ))

@@ -6,7 +6,6 @@ use mathlib.Core.List.{_∷_}
 use lib.Dec.{eqb}
 use lib.ListN.{length}
 use borrow.Author.Tests.{eqb-true}
-use Rattle.values.specs.Lists.{all}
 use Rattle.values.specs.Counts as counts
 use Rattle.values.specs.declared.Access.{Access}
 use Rattle.values.specs.declared.Call.{Call}
@@ -21,7 +20,7 @@ use Rattle.soundness_laws.proofs.Holding.{Holding, holding-of}
 use Rattle.step.specs.Meets.{stateMeets, stateRefusal, refusal}
 use Rattle.step.specs.Call.{done, served, Numbers}
 use Rattle.step.proofs.SoundKept.{call-accepted, sound-kept}
-use Rattle.step.proofs.StateRefusals.{lengths-fit, not-state-refused, refusal-rows}
+use Rattle.step.proofs.StateRefusals.{lengths-fit, not-state-refused, state-numbered, refusal-rows}
 use Rattle.terms.specs.History.{History, afterServed, after}
 use Rattle.terms.specs.Rules.{AccessAllowed, ServedAllowed, Allowed}
 use Rattle.terms.proofs.Invariant.{Agrees}
@@ -78,10 +77,10 @@ module _ (m : Machine) (p : Plain) (h : History) (g : Agrees m p h) where
   module _ (c : Call) (q : Numbers c) (r : Allowed p h c) where
     -- refusals 1 to 4 do not hold, and the others are decided by the count of calls and by the call alone
     refusal-same : refusal m c ≡ plainRefusal p c
-    unfolding plainRefusal stateRefusal all
+    unfolding plainRefusal stateRefusal
     refusal-same =
         let f = g .formed in
-        refusal-rows m c ∙ rows-unmet (stateMeets m) (row5 (m .counts .calls) ∷ callRows c) refl
+        refusal-rows m c ∙ rows-unmet (stateMeets m) (row5 (m .counts .calls) ∷ callRows c) (state-numbered m)
         (sym (not-state-refused m (lengths-fit n (f .memory-lines) (f .memory-short)) (f .store-long) (g .is-sound) (g .size)))
         ∙ ap (λ (x : ℕ). refusalIn (row5 x ∷ callRows c)) (g .calls)
 

@@ -9,7 +9,7 @@ use Rattle.values.specs.declared.Answer.{Answer}
 use Rattle.values.specs.declared.Answer.the-variants as answer
 use Rattle.step.specs.Meets.{startRefusal, refusal}
 use Rattle.step.specs.Start.{startedFrom, started}
-use Rattle.terms.specs.Words.{RefusedWords}
+use Rattle.terms.specs.RefusedWords.{RefusedWords}
 use Rattle.step.specs.Call.{served}
 use Rattle.machine.specs.Machine.{Machine, fresh}
 use Rattle.machine.specs.Machine.{steppedFrom}

@@ -20,7 +20,10 @@ enum-known-p-2 : tie.Need-enum-known-p-2
 enum-known-p-2 c = search needs
 
 mul-result-2 : tie.Need-mul-result-2
-mul-result-2 c = let after-p2 = c .before in
+mul-result-2 c = search needs
+
+mul-result-3 : tie.Need-mul-result-3
+mul-result-3 c = let after-p2 = c .before in
     let start = after-p2 .before .before in
     let h = rw (after-p2 .p2 .given .1) at (start .pre) in omega (arith, h)
 
@@ -50,6 +53,7 @@ part-code-spec =
     add-result
     enum-known-p-2
     mul-result-2
+    mul-result-3
     add-result-2
     enum-told
     returns

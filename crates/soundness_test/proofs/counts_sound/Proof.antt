@@ -1,6 +1,5 @@
 use mathlib.Core.Path.{sym}
 use Rattle.soundness_test.proofs.Clauses.{misses-high, hits-high, fills-high, dirty-high, halves-test}
-use borrow.Author.Needs.{needs}
 use Rattle.soundness_test.proofs.counts_sound.Statement.{statement}
 use Rattle.soundness_test.proofs.counts_sound.Tie as tie
 
@@ -26,11 +25,8 @@ returns-4 c = let else3 = c .before .before in
     let a = start .args in
     λ lines e. sym (dirty-high (a .c) lines (else1 .if1 .left) (else2 .if2 .left) (else3 .if3 .left) (a .dirty) e (c .if4 .taken))
 
-sub-result : tie.Need-sub-result
-sub-result c = search needs
-
 returns-5 : tie.Need-returns-5
-returns-5 c = let else4 = c .before in
+returns-5 c = let else4 = c .before .before in
     let else3 = else4 .before .before in
     let else2 = else3 .before .before in
     let else1 = else2 .before .before in
@@ -40,4 +36,4 @@ returns-5 c = let else4 = c .before in
 
 pub counts-sound-spec : {M : Type 1} → statement M
 counts-sound-spec =
-    tie.close (tie.spec returns returns-2 returns-3 returns-4 sub-result returns-5)
+    tie.close (tie.spec returns returns-2 returns-3 returns-4 returns-5)

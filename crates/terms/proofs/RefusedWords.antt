@@ -7,7 +7,7 @@ use Rattle.sa110.specs.State.{machineIn}
 use Rattle.sa110.specs.Held.{EightPlaces, zeroState}
 use Rattle.sa110.proofs.Starts.{fresh-is}
 use Rattle.sa110.proofs.Held.{held-same}
-use Rattle.terms.specs.Words.{RefusedCallWords, RefusedStartZeros, RefusedWords}
+use Rattle.terms.specs.RefusedWords.{RefusedCallWords, RefusedStartZeros, RefusedWords}
 use Rattle.terms.proofs.Answers.{call-by-refusal, start-by-refusal}
 
 pub refused-call-words : RefusedCallWords
