@@ -1,10 +1,10 @@
 -- The clauses of refusal 3 of one word.
-use Prim.Native.Nat.{ℕ, _+_, _-_, _*_, _/_, _%_, _<_, _≤_}
+use Prim.Native.Nat.{ℕ, _+_, _*_, _/_, _%_, _<_, _≤_}
 use native.Mathlib.Omega.{arith}
 use mathlib.Core.Bool.{Bool, true, false, cond, not, _&&_}
 use mathlib.Core.Path.{_≡_, refl, sym, _∙_, ap}
 use lib.Dec.{eqb, ltb, leb}
-use borrow.Author.Tests.{eqb-true, eqb-false, eq-eqb, ne-eqb, lt-ltb, le-ltb, le-leb, lt-leb, leb-true, leb-false}
+use borrow.Author.Tests.{eqb-true, eqb-false, eq-eqb, ne-eqb, lt-ltb, le-ltb, le-leb, lt-leb}
 use Rattle.values.specs.Bits.{bit}
 use Rattle.values.proofs.Cases.{case, and-false}
 use Rattle.cache.specs.Packing.{lineOf}
@@ -253,13 +253,6 @@ module _ (w : ℕ) (small′ : w < 0x10000000000000000) where
   unfolding entrySound entryOf
   entry-odd e = let q : w / 1 % 2 ≡ 1 = omega arith in rw q
 
--- a sum is at most n where its first part is at most what the other leaves
-sum-test : (h d n : ℕ) → d ≤ n → leb (h + d) n ≡ leb h (n - d)
-sum-test h d n l =
-    case (leb (h + d) n)
-    (λ t. t ∙ sym (le-leb h (n - d) (let g = leb-true (h + d) n t in omega arith)))
-    (λ t. t ∙ sym (lt-leb h (n - d) (let g = leb-false (h + d) n t in omega arith)))
-
 -- "TLB misses, hits or fills above the calls, or halves sent out plus dirty halves above the calls"
 module _ (c : Counts) (lines : List Line) where
   pub misses-high : c .calls < c .misses → countsSound c lines ≡ false
@@ -276,16 +269,9 @@ module _ (c : Counts) (lines : List Line) where
       unfolding countsSound
       fills-high h = rw (le-leb (c .misses) (c .calls) m, le-leb (c .hits) (c .calls) k, lt-leb (c .fills) (c .calls) h)
 
-      module _ (f : c .fills ≤ c .calls) (dirty : ℕ) (e : dirty ≡ sum dirtyHalves lines) where
-        by-halves : countsSound c lines ≡ leb (c .halves + dirty) (c .calls)
-        unfolding countsSound
-        by-halves = rw (le-leb (c .misses) (c .calls) m, le-leb (c .hits) (c .calls) k, le-leb (c .fills) (c .calls) f, e)
-
-        pub dirty-high : c .calls < dirty → countsSound c lines ≡ false
-        dirty-high h = by-halves ∙ lt-leb (c .halves + dirty) (c .calls) (omega arith)
-
-        pub halves-test : dirty ≤ c .calls → countsSound c lines ≡ leb (c .halves) (c .calls - dirty)
-        halves-test d = by-halves ∙ sum-test (c .halves) dirty (c .calls) d
+      pub halves-test : c .fills ≤ c .calls → (dirty : ℕ) → dirty ≡ sum dirtyHalves lines → countsSound c lines ≡ leb (c .halves + dirty) (c .calls)
+      unfolding countsSound
+      halves-test f dirty e = rw (le-leb (c .misses) (c .calls) m, le-leb (c .hits) (c .calls) k, le-leb (c .fills) (c .calls) f, e)
 
 -- a conjunction of two tests, each by its meaning
 pub pair : {r a b x y : Bool} → r ≡ (a && b) → a ≡ x → b ≡ y → r ≡ (x && y)

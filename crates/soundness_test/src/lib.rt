@@ -181,10 +181,7 @@ fn counts_sound(c: Counts, dirty: Count) -> bool
     if c.fills > c.calls {
         return false;
     }
-    if dirty > c.calls {
-        return false;
-    }
-    c.halves <= c.calls - dirty
+    c.halves as u64 + dirty as u64 <= c.calls as u64
 }
 
 // The key of line p of a set: a valid line's is its tag, an empty line's a number that no tag in range and no other empty line has.

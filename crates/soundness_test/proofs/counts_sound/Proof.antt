@@ -1,5 +1,6 @@
 use mathlib.Core.Path.{sym}
-use Rattle.soundness_test.proofs.Clauses.{misses-high, hits-high, fills-high, dirty-high, halves-test}
+use Rattle.soundness_test.proofs.Clauses.{misses-high, hits-high, fills-high, halves-test}
+use borrow.Author.Needs.{needs}
 use Rattle.soundness_test.proofs.counts_sound.Statement.{statement}
 use Rattle.soundness_test.proofs.counts_sound.Tie as tie
 
@@ -17,23 +18,22 @@ returns-3 c = let else2 = c .before .before in
     let start = else1 .before .before in
     let a = start .args in λ lines e. sym (fills-high (a .c) lines (else1 .if1 .left) (else2 .if2 .left) (c .if3 .taken))
 
+cast-result : tie.Need-cast-result
+cast-result c = search needs
+
+add-result : tie.Need-add-result
+add-result c = search needs
+
+cast-result-2 : tie.Need-cast-result-2
+cast-result-2 c = search needs
+
 returns-4 : tie.Need-returns-4
 returns-4 c = let else3 = c .before .before in
     let else2 = else3 .before .before in
     let else1 = else2 .before .before in
     let start = else1 .before .before in
-    let a = start .args in
-    λ lines e. sym (dirty-high (a .c) lines (else1 .if1 .left) (else2 .if2 .left) (else3 .if3 .left) (a .dirty) e (c .if4 .taken))
-
-returns-5 : tie.Need-returns-5
-returns-5 c = let else4 = c .before .before in
-    let else3 = else4 .before .before in
-    let else2 = else3 .before .before in
-    let else1 = else2 .before .before in
-    let start = else1 .before .before in
-    let a = start .args in
-    λ lines e. sym (halves-test (a .c) lines (else1 .if1 .left) (else2 .if2 .left) (else3 .if3 .left) (a .dirty) e (else4 .if4 .left))
+    let a = start .args in λ lines e. sym (halves-test (a .c) lines (else1 .if1 .left) (else2 .if2 .left) (else3 .if3 .left) (a .dirty) e)
 
 pub counts-sound-spec : {M : Type 1} → statement M
 counts-sound-spec =
-    tie.close (tie.spec returns returns-2 returns-3 returns-4 returns-5)
+    tie.close (tie.spec returns returns-2 returns-3 cast-result add-result cast-result-2 returns-4)
