@@ -76,7 +76,8 @@ kept-twice v =
     parts (v % 16) (v / 256 % 4) (v / 0x1000 % 2) (omega arith) (omega arith) (omega arith)
   where
     parts : (a b c : ℕ) → a < 16 → b < 4 → c < 2
-        → (a + b * 256 + c * 0x1000) % 16 + (a + b * 256 + c * 0x1000) / 256 % 4 * 256 + (a + b * 256 + c * 0x1000) / 0x1000 % 2 * 0x1000 ≡ a + b * 256 + c * 0x1000
+        → (a + b * 256 + c * 0x1000) % 16 + (a + b * 256 + c * 0x1000) / 256 % 4 * 256 + (a + b * 256 + c * 0x1000) / 0x1000 % 2 * 0x1000
+        ≡ a + b * 256 + c * 0x1000
     parts a b c ha hb hc =
         let x = a + b * 256 + c * 0x1000 in
         let e : x % 16 ≡ a = omega arith in

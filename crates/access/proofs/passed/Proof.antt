@@ -59,14 +59,14 @@ same-length-9 c = search needs
 returns-2 : tie.Need-returns-2
 returns-2 c =
     let after-store2 = c .before .before .before .before .before .before .before .before in
-    let of-k = after-store2 .before .before .before .before .before .before .before in
-    let start = of-k .before .before .before .before .before .before .before in
+    let arm-k = after-store2 .before .before .before .before .before .before .before in
+    let start = arm-k .before .before .before .before .before .before .before in
     let a = start .args in
     let k = after-store2 .store2 .ensures (now (a .pointers)) in
     record {
       same = λ es n. k .same es n ∙ sym (stores-by
           (machineOf (lists (now (a .memory)) (now (a .words)) (now (a .bytes)) (now (a .lines)) (now (a .pointers)) (now (a .store))) es (a .s) n) (a .a)
-          (a .p) (a .a .kind) _ (of-k .k .given .1));
+          (a .p) (a .a .kind) _ (arm-k .k .given .1));
       bytes-long = k .bytes-long;
     }
 

@@ -21,14 +21,14 @@ enum-known-c c = search needs
 
 passed-requires : tie.Need-passed-requires
 passed-requires c κs =
-    let of-c = c .before .before .before .before .before .before .before in let after-commit = of-c .before .before .before .before in
+    let arm-c = c .before .before .before .before .before .before .before in let after-commit = arm-c .before .before .before .before in
     let after-decide = after-commit .before .before in
     let start = after-decide .before .before .before .before .before .before .before .before .before .before .before in
     let a = start .args in (
       ready-kept _ (a .s) (lists (now (a .memory)) (now (a .words)) (now (a .bytes)) (now (a .lines)) (now (a .pointers)) (now (a .store)))
           (after-commit .commit .ensures .1) (start .pre .2),
       start .pre .3,
-      rw (of-c .c .given .1) at (after-decide .decide .ensures .checked-ranged),
+      rw (arm-c .c .given .1) at (after-decide .decide .ensures .checked-ranged),
     )
 
 enum-known-c-2 : tie.Need-enum-known-c-2
@@ -36,8 +36,8 @@ enum-known-c-2 c = search needs
 
 faulted-requires : tie.Need-faulted-requires
 faulted-requires c κs =
-    let of-c2 = c .before in let after-decide = of-c2 .before .before .before .before .before .before in
-    rw (of-c2 .c2 .given .1) at (after-decide .decide .ensures .checked-ranged)
+    let arm-c2 = c .before in let after-decide = arm-c2 .before .before .before .before .before .before in
+    rw (arm-c2 .c2 .given .1) at (after-decide .decide .ensures .checked-ranged)
 
 same-length : tie.Need-same-length
 same-length c = search needs
@@ -60,8 +60,8 @@ same-length-6 c = search needs
 returns : tie.Need-returns
 returns c =
     let after-passed = c .before .before .before .before .before .before .before .before .before .before in
-    let of-c = after-passed .before .before .before .before .before .before .before .before in
-    let after-commit = of-c .before .before .before .before in let after-decide = after-commit .before .before in
+    let arm-c = after-passed .before .before .before .before .before .before .before .before in
+    let after-commit = arm-c .before .before .before .before in let after-decide = after-commit .before .before in
     let start = after-decide .before .before .before .before .before .before .before .before .before .before .before in
     let a = start .args in
     let l = (lists (now (a .memory)) (now (a .words)) (now (a .bytes)) (now (a .lines)) (now (a .pointers)) (now (a .store))) in
@@ -69,7 +69,7 @@ returns c =
       (λ n. after-passed .passed .ensures .same es n ∙ sym
           (access-passed (machineOf l (now (a .entries)) (a .s) n) (machineOf l es (after-commit .commit .result) n) (a .a) (after-decide .decide .result)
           (decision-is l (now (a .entries)) (a .s) n (a .a) _ (after-decide .decide .ensures .same)) (after-commit .commit .ensures .0 l n) _
-          (of-c .c .given .1))),
+          (arm-c .c .given .1))),
       after-passed .passed .ensures .bytes-long,
     )
 
@@ -81,7 +81,7 @@ same-length-8 c = search needs
 
 returns-2 : tie.Need-returns-2
 returns-2 c =
-    let of-c2 = c .before .before in let after-commit = of-c2 .before .before .before .before in let after-decide = after-commit .before .before in
+    let arm-c2 = c .before .before in let after-commit = arm-c2 .before .before .before .before in let after-decide = after-commit .before .before in
     let start = after-decide .before .before .before .before .before .before .before .before .before .before .before in
     let a = start .args in
     let l = (lists (now (a .memory)) (now (a .words)) (now (a .bytes)) (now (a .lines)) (now (a .pointers)) (now (a .store))) in
@@ -89,7 +89,7 @@ returns-2 c =
       (λ n. c .faulted .ensures l es n ∙ sym
           (access-denied (machineOf l (now (a .entries)) (a .s) n) (machineOf l es (after-commit .commit .result) n) (a .a) (after-decide .decide .result)
           (decision-is l (now (a .entries)) (a .s) n (a .a) _ (after-decide .decide .ensures .same)) (after-commit .commit .ensures .0 l n) _ _
-          (of-c2 .c2 .given .1))),
+          (arm-c2 .c2 .given .1))),
       start .pre .2 .fits .bytes-long,
     )
 

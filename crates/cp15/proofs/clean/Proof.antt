@@ -17,21 +17,21 @@ enum-known-found c = search needs
 
 clean-line-requires : tie.Need-clean-line-requires
 clean-line-requires c κs =
-    let of-found = c .before .before .before .before .before in let after-find = of-found .before .before in
+    let arm-found = c .before .before .before .before .before in let after-find = arm-found .before .before in
     let start = after-find .before .before .before .before .before .before in
     let a = start .args in (
       start .pre .1 .fits,
       can-clean (now (a .memory)) (now (a .words)) (now (a .bytes)) (now (a .lines)) (now (a .store))
-          (a .s) (a .va) _ (start .pre .1) (sym (after-find .find .ensures) ∙ of-found .found .given .1),
+          (a .s) (a .va) _ (start .pre .1) (sym (after-find .find .ensures) ∙ arm-found .found .given .1),
     )
 
 sent-requires : tie.Need-sent-requires
 sent-requires c κs =
     let after-clean-line = c .before .before .before .before .before .before in
-    let of-found = after-clean-line .before .before .before .before .before .before in let after-find = of-found .before .before in
+    let arm-found = after-clean-line .before .before .before .before .before .before in let after-find = arm-found .before .before in
     let start = after-find .before .before .before .before .before .before in
     let a = start .args in
-    let e = sym (after-find .find .ensures) ∙ of-found .found .given .1 in
+    let e = sym (after-find .find .ensures) ∙ arm-found .found .given .1 in
     clean-room (now (a .memory)) (now (a .words)) (now (a .bytes)) (now (a .lines)) (now (a .store)) [] (a .s) _ _ (start .pre .1)
     (found (linesOf (now (a .lines))) (a .va) _ e .low) (after-clean-line .clean-line .ensures [] .count)
 
@@ -53,12 +53,12 @@ same-length-3 c = search needs
 returns : tie.Need-returns
 returns c =
     let after-sent = c .before in let after-clean-line = after-sent .before .before .before .before .before .before .before in
-    let of-found = after-clean-line .before .before .before .before .before .before in let after-find = of-found .before .before in
+    let arm-found = after-clean-line .before .before .before .before .before .before in let after-find = arm-found .before .before in
     let start = after-find .before .before .before .before .before .before in
     let a = start .args in
     λ ps. record {
       same = λ es n. clean-left es (a .s) n (lists (now (a .memory)) (now (a .words)) (now (a .bytes)) (now (a .lines)) ps (now (a .store))) (a .va) _
-          _ _ _ _ (sym (after-find .find .ensures) ∙ of-found .found .given .1) (after-clean-line .clean-line .ensures ps)
+          _ _ _ _ (sym (after-find .find .ensures) ∙ arm-found .found .given .1) (after-clean-line .clean-line .ensures ps)
           (rw (after-sent .sent .ensures) at (c .with-used .ensures));
       bytes-long = after-clean-line .clean-line .ensures [] .fits .bytes-long;
     }

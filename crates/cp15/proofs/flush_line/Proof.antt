@@ -15,8 +15,8 @@ enum-known-found c = search needs
 
 empty-line-requires : tie.Need-empty-line-requires
 empty-line-requires c κs =
-    let of-found = c .before .before in let after-find = of-found .before .before in let start = after-find .before .before .before in
-    (start .pre .0, found (linesOf (now (start .args .lines))) (start .args .va) _ (sym (after-find .find .ensures) ∙ of-found .found .given .1) .low)
+    let arm-found = c .before .before in let after-find = arm-found .before .before in let start = after-find .before .before .before in
+    (start .pre .0, found (linesOf (now (start .args .lines))) (start .args .va) _ (sym (after-find .find .ensures) ∙ arm-found .found .given .1) .low)
 
 enum-told : tie.Need-enum-told
 enum-told c = search needs
@@ -26,10 +26,10 @@ same-length c = search needs
 
 returns : tie.Need-returns
 returns c =
-    let after-empty-line = c .before .before in let of-found = after-empty-line .before .before .before in
-    let after-find = of-found .before .before in let start = after-find .before .before .before in
+    let after-empty-line = c .before .before in let arm-found = after-empty-line .before .before .before in
+    let after-find = arm-found .before .before in let start = after-find .before .before .before in
     let a = start .args in λ ps st. line-flushed (now (a .lines)) ps st (a .va) (after-empty-line .empty-line .last .0) _
-    (sym (after-find .find .ensures) ∙ of-found .found .given .1) (after-empty-line .empty-line .ensures)
+    (sym (after-find .find .ensures) ∙ arm-found .found .given .1) (after-empty-line .empty-line .ensures)
 
 same-length-2 : tie.Need-same-length-2
 same-length-2 c = search needs

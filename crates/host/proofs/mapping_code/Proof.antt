@@ -33,10 +33,10 @@ mul-result-2 : tie.Need-mul-result-2
 mul-result-2 c = search needs
 
 returns : tie.Need-returns
-returns c = let matched = c .before .before in rw (matched .m .given .1) (c .word-of .ensures)
+returns c = let arm = c .before .before in rw (arm .m .given .1) (c .word-of .ensures)
 
 returns-2 : tie.Need-returns-2
-returns-2 c = let matched = c .before .before in rw (matched .m2 .given .1) (omega (arith, c .status-number .ensures .0))
+returns-2 c = let arm = c .before .before in rw (arm .m2 .given .1) (omega (arith, c .status-number .ensures .0))
 
 pub mapping-code-spec : {M : Type 1} → statement M
 mapping-code-spec =

@@ -273,7 +273,8 @@ module _ {M : Type 1} (𝓤 : URA M) (H : Heap 𝓤) (A : Atoms 𝓤) (W : Given
         -- [room for _16; …; to room for _0; …; the tokens; what the parameters own]
         move ! (34 ∷ 35 ∷ []) $ open-lent ! tt (named 0) S.the-type S′.the-laws state (λ s-is.
         move ! (5 ∷ 6 ∷ []) $ open-lent ! tt (named 1) T.the-type T′.the-laws cp15 (λ c-is.
-        -- [the record: cell, own, open borrow, obs, auth; the other tokens; what the others own; the state: cell, own, open borrow, obs, auth; room for _16; …; to room for _0; …]
+        -- [the record: cell, own, open borrow, obs, auth; the other tokens; what the others own; the state: cell, own, open borrow, obs, auth; room
+        -- for _16; …; to room for _0; …]
         assigns ! (of-opd ! (load ! (from ! (hop ! (look ! 42 refl) (stop !))) (look-raw ! 7 refl))) (from ! (stop !))
         (init ! 22 refl (LL.lawful S.the-type S′.the-laws 𝓤 H A W .typed (state .now) _ s-is .0)) $
         assigns ! (of-opd ! (load ! (from ! (hop ! (look ! 40 refl) (stop !))) (look-raw ! 0 refl))) (from ! (stop !))
@@ -305,7 +306,8 @@ module _ {M : Type 1} (𝓤 : URA M) (H : Heap 𝓤) (A : Atoms 𝓤) (W : Given
         feqL ! (λ memory-len. move ! (1 ∷ []) $ fsplit ! $ fsplit ! $ move ! (1 ∷ []) $ feqL ! (λ store-len. move ! (1 ∷ []) $ drop ! $
         move ! (2 ∷ []) $ split ! $ move ! (1 ∷ []) $ peeks ! R.the-row (Is R.the-row) (shows 𝓤 H A R.the-row) r (w ∷ []) (λ is.
         let fields = LL.owed R.the-type R′.the-laws r (w ∷ []) is in
-        -- [what the result owns; the other tokens; the last lists; the record: cell, own, open borrow, obs, auth; the state: the same; _16; …; to room for _0; …]
+        -- [what the result owns; the other tokens; the last lists; the record: cell, own, open borrow, obs, auth; the state: the same; _16; …; to
+        -- room for _0; …]
         land ! (from ! (stop !)) (init ! 26 refl (LL.lawful R.the-type R′.the-laws 𝓤 H A W .typed r _ is .0)) $
         rewrite ! 26 (λ (u : Val). ‵ (fat fullShare R′.mir l₁₀ 0 u)) (ap only (LL.tells R.the-type R′.the-laws r (w ∷ []) is)) refl $
         assigns ! (of-opd ! (load ! (from ! (fld ! refl (stop !))) (look-in ! 26 (sub ! 0 refl (whole !))))) (from ! (hop ! (look ! 44 refl) (stop !)))

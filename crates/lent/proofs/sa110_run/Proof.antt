@@ -264,7 +264,8 @@ module _ {M : Type 1} (𝓤 : URA M) (H : Heap 𝓤) (A : Atoms 𝓤) (W : Given
         -- [room for _15; …; to room for _0; …; the tokens; what the parameters own]
         move ! (32 ∷ 33 ∷ []) $ open-lent ! tt (named 0) S.the-type S′.the-laws state (λ s-is.
         move ! (5 ∷ 6 ∷ []) $ open-lent ! tt (named 1) T.the-type T′.the-laws cp15 (λ c-is.
-        -- [the record: cell, own, open borrow, obs, auth; the other tokens; what the others own; the state: cell, own, open borrow, obs, auth; room for _15; …; to room for _0; …]
+        -- [the record: cell, own, open borrow, obs, auth; the other tokens; what the others own; the state: cell, own, open borrow, obs, auth; room
+        -- for _15; …; to room for _0; …]
         assigns ! (of-opd ! (load ! (from ! (hop ! (look ! 40 refl) (stop !))) (look-raw ! 7 refl))) (from ! (stop !))
         (init ! 26 refl (LL.lawful S.the-type S′.the-laws 𝓤 H A W .typed (state .now) _ s-is .0)) $
         assigns ! (of-opd ! (load ! (from ! (hop ! (look ! 38 refl) (stop !))) (look-raw ! 0 refl))) (from ! (stop !))
@@ -300,7 +301,8 @@ module _ {M : Type 1} (𝓤 : URA M) (H : Heap 𝓤) (A : Atoms 𝓤) (W : Given
         feqL ! (λ store-len. move ! (1 ∷ []) $ fsplit ! $ drop ! $ fsplit ! $ fsplit ! $ move ! (1 ∷ []) $ feqL ! (λ answers-len. move ! (1 ∷ []) $ drop ! $
         move ! (3 ∷ []) $ split ! $ move ! (1 ∷ []) $ peeks ! R.the-row (Is R.the-row) (shows 𝓤 H A R.the-row) r (w ∷ []) (λ is.
         let fields = LL.owed R.the-type R′.the-laws r (w ∷ []) is in
-        -- [what the result owns; the other tokens; the last lists; the record: cell, own, open borrow, obs, auth; the state: the same; _15; …; to room for _0; …]
+        -- [what the result owns; the other tokens; the last lists; the record: cell, own, open borrow, obs, auth; the state: the same; _15; …; to
+        -- room for _0; …]
         land ! (from ! (stop !)) (init ! 31 refl (LL.lawful R.the-type R′.the-laws 𝓤 H A W .typed r _ is .0)) $
         rewrite ! 31 (λ (u : Val). ‵ (fat fullShare R′.mir l₇ 0 u)) (ap only (LL.tells R.the-type R′.the-laws r (w ∷ []) is)) refl $
         assigns ! (of-opd ! (load ! (from ! (fld ! refl (stop !))) (look-in ! 31 (sub ! 0 refl (whole !))))) (from ! (hop ! (look ! 43 refl) (stop !)))

@@ -202,7 +202,8 @@ module _ {M : Type 1} (𝓤 : URA M) (H : Heap 𝓤) (A : Atoms 𝓤) (W : Given
         -- [room for _5; …; to room for _0; …; the tokens; what the parameters own]
         move ! (12 ∷ 13 ∷ []) $ open-lent ! tt (named 0) S.the-type S′.the-laws state (λ s-is.
         move ! (5 ∷ 6 ∷ []) $ open-lent ! tt (named 1) T.the-type T′.the-laws cp15 (λ c-is.
-        -- [the record: cell, own, open borrow, obs, auth; the other tokens; what the others own; the state: cell, own, open borrow, obs, auth; room for _5; …; to room for _0; …]
+        -- [the record: cell, own, open borrow, obs, auth; the other tokens; what the others own; the state: cell, own, open borrow, obs, auth; room
+        -- for _5; …; to room for _0; …]
         move ! (5 ∷ 6 ∷ []) $ use2 W (raw (Value 𝓤 H A at-mem run .pre to)) goes $
         calls-at ! fm (Value 𝓤 H A at-mem run) known to
         (and-then ! (load ! (from ! (stop !)) (look ! 15 refl)) (and-then ! (load ! (from ! (stop !)) (look ! 13 refl)) (no-more !))) (λ w.

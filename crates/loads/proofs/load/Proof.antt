@@ -18,11 +18,11 @@ enum-known-found c = search needs
 
 load-hit-requires : tie.Need-load-hit-requires
 load-hit-requires c κs =
-    let of-found = c .before .before in let after-find = of-found .before .before in
+    let arm-found = c .before .before in let after-find = arm-found .before .before in
     let start = after-find .before .before .before .before .before .before .before .before in (
       start .pre .0 .store-long,
       find-low (now (start .args .lines)) _ _ (start .pre .0 .lines-long)
-          (sym (after-find .find .ensures) ∙ of-found .found .given .1),
+          (sym (after-find .find .ensures) ∙ arm-found .found .given .1),
       start .pre .1,
       start .pre .0 .hits,
     )
@@ -41,13 +41,14 @@ same-length-2 c = search needs
 
 returns : tie.Need-returns
 returns c =
-    let of-found = c .before .before .before in let after-find = of-found .before .before in let after-cleared = after-find .before .before in
+    let arm-found = c .before .before .before in let after-find = arm-found .before .before in let after-cleared = after-find .before .before in
     let start = after-cleared .before .before .before .before .before .before in
     let a = start .args in
     let l = (lists (now (a .memory)) (now (a .words)) (now (a .bytes)) (now (a .lines)) (now (a .pointers)) (now (a .store))) in
     record {
       same = λ es n. c .load-hit .ensures l es n refl ∙ sym
-          (found-hit (machineOf l es (a .s) n) (a .a) (a .p) _ _ (after-cleared .cleared .ensures) (sym (after-find .find .ensures) ∙ of-found .found .given .1));
+          (found-hit (machineOf l es (a .s) n) (a .a) (a .p) _ _ (after-cleared .cleared .ensures)
+          (sym (after-find .find .ensures) ∙ arm-found .found .given .1));
       bytes-long = start .pre .0 .fits .bytes-long;
     }
 

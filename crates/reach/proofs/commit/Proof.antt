@@ -15,8 +15,8 @@ enum-known-t-2 c = search needs
 
 place-requires : tie.Need-place-requires
 place-requires c κs =
-    let of-t2 = c .before .before in let start = of-t2 .before .before .before in
-    (start .pre .0 .entries-long, start .pre .0 .pointer, rw (of-t2 .t2 .given .1) at (start .pre .1))
+    let arm-t2 = c .before .before in let start = arm-t2 .before .before .before in
+    (start .pre .0 .entries-long, start .pre .0 .pointer, rw (arm-t2 .t2 .given .1) at (start .pre .1))
 
 next-requires : tie.Need-next-requires
 next-requires c κs = search needs
@@ -42,8 +42,8 @@ returns c =
 
 returns-2 : tie.Need-returns-2
 returns-2 c =
-    let of-t = c .before in let start = of-t .before .before .before in
-    let a = start .args in rw (of-t .t .given .1) ((λ l n. commit-held l (now (a .entries)) (a .s) n _), stay (a .s))
+    let arm-t = c .before in let start = arm-t .before .before .before in
+    let a = start .args in rw (arm-t .t .given .1) ((λ l n. commit-held l (now (a .entries)) (a .s) n _), stay (a .s))
 
 same-length : tie.Need-same-length
 same-length c = search needs
@@ -51,9 +51,9 @@ same-length c = search needs
 returns-3 : tie.Need-returns-3
 returns-3 c =
     let after-with-pointer = c .before in let after-next = after-with-pointer .before in let after-place = after-next .before .before .before in
-    let of-t2 = after-place .before .before .before in let start = of-t2 .before .before .before in
+    let arm-t2 = after-place .before .before .before in let start = arm-t2 .before .before .before in
     let a = start .args in
-    rw (of-t2 .t2 .given .1) (
+    rw (arm-t2 .t2 .given .1) (
       (λ l n. commit-walked l (now (a .entries)) (a .s) n _ (after-place .place .last .0) _ _ _ (after-place .place .ensures)
           (after-next .next .ensures .0) (after-with-pointer .with-pointer .ensures) (c .missed .ensures)),
       stay-walked (a .s) _ _ _ (after-with-pointer .with-pointer .ensures) (c .missed .ensures),
@@ -61,9 +61,9 @@ returns-3 c =
 
 returns-4 : tie.Need-returns-4
 returns-4 c =
-    let of-t3 = c .before .before in let start = of-t3 .before .before .before in
+    let arm-t3 = c .before .before in let start = arm-t3 .before .before .before in
     let a = start .args in
-    rw (of-t3 .t3 .given .1)
+    rw (arm-t3 .t3 .given .1)
     ((λ l n. commit-failed l (now (a .entries)) (a .s) n _ _ _ (c .missed2 .ensures)), stay-missed (a .s) _ (c .missed2 .ensures))
 
 pub commit-spec : {M : Type 1} → statement M

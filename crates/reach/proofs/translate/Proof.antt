@@ -70,7 +70,8 @@ returns-2 c = let after-walk = c .before in
     let a = start .args in
     record {
       same = walked (now (a .entries)) (a .va) (a .r) (physical (now (a .memory))) _ (sym (after-mmu .mmu .ensures) ∙ then1 .if1 .taken)
-          (sym (after-enum-told .enum-told .given .1) ∙ after-lookup .lookup .ensures) (c .of-walk .ensures .same ∙ ap ofWalk (after-walk .walk .ensures .same));
+          (sym (after-enum-told .enum-told .given .1) ∙ after-lookup .lookup .ensures)
+          (c .of-walk .ensures .same ∙ ap ofWalk (after-walk .walk .ensures .same));
       ranged = c .of-walk .ensures .ranged;
     }
 

@@ -23,15 +23,15 @@ write-refusal-requires c κs = search needs
 
 returns : tie.Need-returns
 unfolding firstMet
-returns c = let matched = c .before .before in rw (matched .c .given .1) (c .access-refusal .ensures)
+returns c = let arm = c .before .before in rw (arm .c .given .1) (c .access-refusal .ensures)
 
 returns-2 : tie.Need-returns-2
 unfolding firstMet
-returns-2 c = let matched = c .before .before in rw (matched .c2 .given .1) (c .read-refusal .ensures)
+returns-2 c = let arm = c .before .before in rw (arm .c2 .given .1) (c .read-refusal .ensures)
 
 returns-3 : tie.Need-returns-3
 unfolding firstMet
-returns-3 c = let matched = c .before .before in rw (matched .c3 .given .1) (c .write-refusal .ensures)
+returns-3 c = let arm = c .before .before in rw (arm .c3 .given .1) (c .write-refusal .ensures)
 
 pub call-refusal-spec : {M : Type 1} → statement M
 call-refusal-spec =

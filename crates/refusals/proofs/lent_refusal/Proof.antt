@@ -13,15 +13,15 @@ length-fits-requires c κs = search needs
 returns : tie.Need-returns
 unfolding firstMet
 returns c = let then1 = c .before in
-    let place = then1 .before in
-    let test = place in let e : lengthFits (test .before .args .memory) ≡ true = sym (test .length-fits .ensures) ∙ then1 .if1 .taken in
+    let test = then1 .before in
+    let e : lengthFits (test .before .args .memory) ≡ true = sym (test .length-fits .ensures) ∙ then1 .if1 .taken in
     rw (e, eq-eqb _ _ (c .if2 .taken))
 
 returns-2 : tie.Need-returns-2
 unfolding firstMet
 returns-2 c = let then1 = c .before in
-    let place = then1 .before in
-    let test = place in let e : lengthFits (test .before .args .memory) ≡ true = sym (test .length-fits .ensures) ∙ then1 .if1 .taken in
+    let test = then1 .before in
+    let e : lengthFits (test .before .args .memory) ≡ true = sym (test .length-fits .ensures) ∙ then1 .if1 .taken in
     rw (e, ne-eqb _ _ (c .if2 .left))
 
 returns-3 : tie.Need-returns-3

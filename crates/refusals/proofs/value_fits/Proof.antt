@@ -25,7 +25,7 @@ returns-2 c = search needs
 
 returns-3 : tie.Need-returns-3
 unfolding firstMet
-returns-3 c = let matched = c .before .before in rw (matched .k .given .1) (c .fits-width .ensures)
+returns-3 c = let arm = c .before .before in rw (arm .k .given .1) (c .fits-width .ensures)
 
 pub value-fits-spec : {M : Type 1} → statement M
 value-fits-spec =

@@ -11,9 +11,9 @@ enum-known-c c = search needs
 
 serve-requires : tie.Need-serve-requires
 serve-requires c κs =
-    let of-c = c .before .before .before .before .before .before .before .before in
-    let start = of-c .before .before .before .before .before .before .before .before in
-    (start .pre .0, start .pre .1, start .pre .2, access-accepted (of-c .c .given .0 .0) (rw (of-c .c .given .1) at (start .pre .4)) .0)
+    let arm-c = c .before .before .before .before .before .before .before .before in
+    let start = arm-c .before .before .before .before .before .before .before .before in
+    (start .pre .0, start .pre .1, start .pre .2, access-accepted (arm-c .c .given .0 .0) (rw (arm-c .c .given .1) at (start .pre .4)) .0)
 
 enum-known-c-2 : tie.Need-enum-known-c-2
 enum-known-c-2 c = search needs
@@ -54,14 +54,14 @@ same-length-6 c = search needs
 returns : tie.Need-returns
 returns c =
     let after-serve = c .before .before .before .before .before .before .before .before .before .before .before .before in
-    let of-c = after-serve .before .before .before .before .before .before .before .before .before in
-    ((λ n. rw (of-c .c .given .1) (after-serve .serve .ensures .0 n)), after-serve .serve .ensures .1)
+    let arm-c = after-serve .before .before .before .before .before .before .before .before .before in
+    ((λ n. rw (arm-c .c .given .1) (after-serve .serve .ensures .0 n)), after-serve .serve .ensures .1)
 
 returns-2 : tie.Need-returns-2
 returns-2 c =
-    let of-c2 = c .before .before in let start = of-c2 .before .before .before .before .before .before .before .before in
+    let arm-c2 = c .before .before in let start = arm-c2 .before .before .before .before .before .before .before .before in
     let a = start .args in (
-      (λ n. rw (of-c2 .c2 .given .1) (c .read .ensures
+      (λ n. rw (arm-c2 .c2 .given .1) (c .read .ensures
           (lists (now (a .memory)) (now (a .words)) (now (a .bytes)) (now (a .lines)) (now (a .pointers)) (now (a .store))) (now (a .entries)) n)),
       start .pre .2 .fits .bytes-long,
     )
@@ -84,9 +84,9 @@ same-length-11 c = search needs
 returns-3 : tie.Need-returns-3
 returns-3 c =
     let after-write = c .before .before .before .before .before .before .before .before in
-    let of-c3 = after-write .before .before .before .before .before .before .before .before in
-    let start = of-c3 .before .before .before .before .before .before .before .before in
-    let a = start .args in ((λ n. rw (of-c3 .c3 .given .1) (after-write .write .ensures .0 (now (a .pointers)) n)), after-write .write .ensures .1)
+    let arm-c3 = after-write .before .before .before .before .before .before .before .before in
+    let start = arm-c3 .before .before .before .before .before .before .before .before in
+    let a = start .args in ((λ n. rw (arm-c3 .c3 .given .1) (after-write .write .ensures .0 (now (a .pointers)) n)), after-write .write .ensures .1)
 
 pub done-spec : {M : Type 1} → statement M
 done-spec =

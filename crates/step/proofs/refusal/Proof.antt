@@ -22,18 +22,18 @@ call-refusal-requires-2 c κs = search needs
 
 returns : tie.Need-returns
 returns c =
-    let of-c = c .before .before in
-    rw (of-c .c .given .1) (c .access-refusal .ensures)
+    let arm-c = c .before .before in
+    rw (arm-c .c .given .1) (c .access-refusal .ensures)
 
 returns-2 : tie.Need-returns-2
 returns-2 c =
-    let of-c2 = c .before .before in
-    rw (of-c2 .c2 .given .1) (c .call-refusal .ensures)
+    let arm-c2 = c .before .before in
+    rw (arm-c2 .c2 .given .1) (c .call-refusal .ensures)
 
 returns-3 : tie.Need-returns-3
 returns-3 c =
-    let of-c3 = c .before .before in
-    rw (of-c3 .c3 .given .1) (c .call-refusal2 .ensures)
+    let arm-c3 = c .before .before in
+    rw (arm-c3 .c3 .given .1) (c .call-refusal2 .ensures)
 
 pub refusal-spec : {M : Type 1} → statement M
 refusal-spec =

@@ -18,12 +18,12 @@ enum-known-found c = search needs
 
 store-hit-requires : tie.Need-store-hit-requires
 store-hit-requires c κs =
-    let of-found = c .before .before .before in let after-find = of-found .before .before in
+    let arm-found = c .before .before .before in let after-find = arm-found .before .before in
     let start = after-find .before .before .before .before .before .before .before in (
       start .pre .1,
       start .pre .2,
       find-low (now (start .args .lines)) _ _ (start .pre .1)
-          (sym (after-find .find .ensures) ∙ of-found .found .given .1),
+          (sym (after-find .find .ensures) ∙ arm-found .found .given .1),
       start .pre .5,
       start .pre .4,
     )
@@ -42,14 +42,14 @@ same-length-2 c = search needs
 
 returns : tie.Need-returns
 returns c =
-    let after-store-hit = c .before .before .before .before in let of-found = after-store-hit .before .before .before .before in
-    let after-find = of-found .before .before in let after-cleared = after-find .before .before in
+    let after-store-hit = c .before .before .before .before in let arm-found = after-store-hit .before .before .before .before in
+    let after-find = arm-found .before .before in let after-cleared = after-find .before .before in
     let start = after-cleared .before .before .before .before .before in
     let a = start .args in
     λ ps. record {
       same = λ es n. after-store-hit .store-hit .ensures (now (a .memory)) (now (a .words)) (now (a .bytes)) ps es n
           ∙ sym (store-found (machineOf (lists (now (a .memory)) (now (a .words)) (now (a .bytes)) (now (a .lines)) ps (now (a .cached))) es (a .s) n)
-          (a .a) (a .v) (a .p) _ _ (after-cleared .cleared .ensures) (sym (after-find .find .ensures) ∙ of-found .found .given .1));
+          (a .a) (a .v) (a .p) _ _ (after-cleared .cleared .ensures) (sym (after-find .find .ensures) ∙ arm-found .found .given .1));
       bytes-long = start .pre .0 .bytes-long;
     }
 

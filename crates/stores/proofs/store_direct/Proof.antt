@@ -17,12 +17,12 @@ cast-store c = search needs
 
 store-requires : tie.Need-store-requires
 store-requires c κs =
-    let of-memory = c .before .before .before .before .before in
-    let start = of-memory .before .before .before .before .before .before .before .before in
+    let arm-memory = c .before .before .before .before .before in
+    let start = arm-memory .before .before .before .before .before .before .before .before in
     let a = start .args in
     let i = answers (physical (now (a .memory))) (a .p .address) (start .pre .4) in
     let h = access-fits (a .a) (a .p .address .0) _ (start .pre .2) (start .pre .3 .within) (omega (arith, i)) (start .pre .1) in
-    (start .pre .2, omega (arith, h, of-memory .memory .given))
+    (start .pre .2, omega (arith, h, arm-memory .memory .given))
 
 with-used-requires : tie.Need-with-used-requires
 with-used-requires c κs = search needs
