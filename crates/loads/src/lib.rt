@@ -7,11 +7,11 @@ ghost use lib.ListN.{length, getD};
 ghost use Rattle.values.specs.Counts.{countLimit};
 ghost use Rattle.words.specs.Words.{isWidth};
 ghost use Rattle.bus.specs.Physical.{physical, aborts};
-ghost use Rattle.buffer.specs.Ranges.{Fits};
 ghost use Rattle.translation.specs.Alignment as aligned;
 ghost use Rattle.translation.specs.Ranges.{PlaceRanged};
-ghost use Rattle.machine.specs.Lists.{Lists, lists, machineOf, steppedOf, Leaves};
+ghost use Rattle.machine.specs.Lists.{Lists, lists, machineOf, steppedOf, Leaves, LeavesBelow};
 ghost use Rattle.machine.specs.Machine.{Machine};
+ghost use Rattle.reach.specs.Code.{MissReady};
 ghost use Rattle.machine.specs.Ready.{SideReady};
 ghost use Rattle.loads.specs.Loads as spec;
 ghost use Rattle.loads.specs.Code.{filledBy};
@@ -105,13 +105,10 @@ fn load_uncached(
     a: Access,
     p: Place,
 ) -> Outcome
-    requires { ⌜ Fits (now memory) (now words) (now bytes) (s .used) × (length (now memory) % 32 ≡ 0) × (isWidth (a .width) ≡ true)
-        × PlaceRanged (aligned.cleared a) p × (aborts (physical (now memory)) (p .address) ≡ false) ⌝ }
+    requires { ⌜ MissReady (now memory) (now words) (now bytes) (s .used) a p × (aborts (physical (now memory)) (p .address) ≡ false) ⌝ }
     ensures { λ r.
-        ⌜ ((lines pointers store : List ℕ)
-        → Leaves (lists (now (memory .entry)) (now (words .entry)) (now (bytes .entry)) lines pointers store) s
-        (lists (now (memory .exit)) (now (words .exit)) (now (bytes .exit)) lines pointers store) r
-        (λ (m : Machine). spec.loadUncached m a p)) ⌝ }
+        ⌜ LeavesBelow (now (memory .entry)) (now (words .entry)) (now (bytes .entry)) s (now (memory .exit)) (now (words .exit)) (now (bytes .exit)) r
+        (λ (m : Machine). spec.loadUncached m a p) ⌝ }
 {
     let pa = p.address;
     let k = a.kind;

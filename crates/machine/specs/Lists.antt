@@ -40,3 +40,10 @@ pub record Turns (l : Lists) (s : Scalars) (k : Lists) (r : Scalars) (f : Machin
 pub record Leaves (l : Lists) (s : Scalars) (k : Lists) (o : Outcome) (f : Machine → Stepped) : Type 0 where
   pub same : (entries : List ℕ) (size : ℕ) → steppedOf k entries size o ≡ f (machineOf l entries s size)
   pub bytes-long : length (k .bytes) ≡ 8
+
+-- the same of a function that is lent neither lines nor pointers nor cache store
+abbrev pub LeavesBelow : (memory words : List ℕ) (bytes : List (List ℕ)) → Scalars → (memory′ words′ : List ℕ) (bytes′ : List (List ℕ)) → Outcome
+    → (Machine → Stepped) → Type 0
+LeavesBelow memory words bytes s memory′ words′ bytes′ o f =
+    (lines pointers store : List ℕ)
+    → Leaves (lists memory words bytes lines pointers store) s (lists memory′ words′ bytes′ lines pointers store) o f

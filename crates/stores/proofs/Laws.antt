@@ -1,16 +1,15 @@
 -- What the code of a store leaves is what the definition says, by the facts that its callees give.
-use Prim.Native.Nat.{ℕ, _%_}
+use Prim.Native.Nat.{ℕ}
 use native.Mathlib.Omega.{arith}
 use mathlib.Core.Bool.{true, false}
 use mathlib.Core.Path.{_≡_, ap}
 use mathlib.Core.List.{List}
-use lib.ListN.{length}
 use Rattle.values.specs.Counts.{hit}
 use Rattle.values.specs.declared.Access.{Access}
 use Rattle.values.specs.declared.VirtualAddress.{VirtualAddress}
 use Rattle.values.specs.declared.Answer.the-variants as answer
 use Rattle.values.specs.declared.Search.the-variants.{At, Nothing}
-use Rattle.words.specs.Words.{stored, isWidth}
+use Rattle.words.specs.Words.{stored}
 use Rattle.bus.specs.Physical.{physical, aborts}
 use Rattle.bus.proofs.Laws.{answers}
 use Rattle.buffer.specs.Buffer.{Backing, withMemory, drained, buffered}
@@ -20,7 +19,6 @@ use Rattle.cache.specs.Dcache.{Dcache, dcacheFrom, find, hitStore}
 use Rattle.cache.specs.Packing.{linesOf}
 use Rattle.translation.specs.Alignment.{cleared}
 use Rattle.translation.specs.Faults.{buffers, otherStatus}
-use Rattle.translation.specs.Ranges.{PlaceRanged}
 use Rattle.translation.specs.declared.Place.{Place}
 use Rattle.machine.specs.Machine.{Machine, physicalOf, Stepped, answersZero}
 use Rattle.machine.specs.Machine as machines
@@ -29,6 +27,7 @@ use Rattle.machine.specs.Lists.{Lists, lists, machineOf, steppedOf}
 use Rattle.machine.specs.declared.Scalars.{Scalars}
 use Rattle.machine.specs.declared.Outcome.{Outcome}
 use Rattle.reach.specs.Reach.{faulted}
+use Rattle.reach.specs.Code.{MissReady}
 use Rattle.reach.proofs.Bounds.{in-block}
 use Rattle.stores.specs.Stores.{storeHit, storeBuffered, storeDirect, storeMiss, store}
 
@@ -69,11 +68,12 @@ module _ (es : List ℕ) (s : Scalars) (n : ℕ) (a : Access) (v : ℕ) (l : Lis
     buffered-left m ws bs used i e g h = rw (h, g, i) (ap made-by (e .same))
 
 -- what a buffered store asks holds where its word answers
-pub stores-in : (memory : List ℕ) (a : Access) (p : Place) → isWidth (a .width) ≡ true → PlaceRanged (cleared a) p
-    → aborts (physical memory) (p .address) ≡ false → length memory % 32 ≡ 0 → Stores memory (p .address) (a .width)
-stores-in memory a p w r h m =
+pub stores-in : (memory words : List ℕ) (bytes : List (List ℕ)) (used : ℕ) (a : Access) (p : Place) → MissReady memory words bytes used a p
+    → aborts (physical memory) (p .address) ≡ false → Stores memory (p .address) (a .width)
+stores-in memory words bytes used a p k h =
     let i = answers (physical memory) (p .address) h in
-    record { width-is = w; in-block = in-block a (p .address .0) w (r .within); inside = omega arith }
+    let m = k .whole in
+    record { width-is = k .width; in-block = in-block a (p .address .0) (k .width) (k .place .within); inside = omega arith }
 
 -- ---- the cases of a store
 

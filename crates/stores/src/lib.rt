@@ -2,16 +2,14 @@
 ghost use mathlib.Core.Path.{_≡_};
 ghost use mathlib.Core.Bool.{true, false};
 ghost use mathlib.Core.List.{List};
-ghost use Prim.Native.Nat.{ℕ, _<_, _%_};
+ghost use Prim.Native.Nat.{ℕ, _<_};
 ghost use lib.ListN.{length};
 ghost use Rattle.values.specs.Counts.{countLimit};
 ghost use Rattle.words.specs.Words.{isWidth};
 ghost use Rattle.bus.specs.Physical.{physical, aborts};
-ghost use Rattle.buffer.specs.Ranges.{Fits};
-ghost use Rattle.translation.specs.Alignment as aligned;
-ghost use Rattle.translation.specs.Ranges.{PlaceRanged};
-ghost use Rattle.machine.specs.Lists.{Lists, lists, machineOf, steppedOf, Leaves};
+ghost use Rattle.machine.specs.Lists.{Lists, lists, machineOf, steppedOf, Leaves, LeavesBelow};
 ghost use Rattle.machine.specs.Machine.{Machine};
+ghost use Rattle.reach.specs.Code.{MissReady};
 ghost use Rattle.machine.specs.Scalars.{outcomeFrom};
 ghost use Rattle.stores.specs.Stores as spec;
 use machine::Outcome;
@@ -62,13 +60,10 @@ fn store_direct(
     v: u32,
     p: Place,
 ) -> Outcome
-    requires { ⌜ Fits (now memory) (now words) (now bytes) (s .used) × (length (now memory) % 32 ≡ 0) × (isWidth (a .width) ≡ true)
-        × PlaceRanged (aligned.cleared a) p × (aborts (physical (now memory)) (p .address) ≡ false) ⌝ }
+    requires { ⌜ MissReady (now memory) (now words) (now bytes) (s .used) a p × (aborts (physical (now memory)) (p .address) ≡ false) ⌝ }
     ensures { λ r.
-        ⌜ ((lines pointers store : List ℕ)
-        → Leaves (lists (now (memory .entry)) (now (words .entry)) (now (bytes .entry)) lines pointers store) s
-        (lists (now (memory .exit)) (now (words .exit)) (now (bytes .exit)) lines pointers store) r
-        (λ (m : Machine). spec.storeDirect m a v p)) ⌝ }
+        ⌜ LeavesBelow (now (memory .entry)) (now (words .entry)) (now (bytes .entry)) s (now (memory .exit)) (now (words .exit)) (now (bytes .exit)) r
+        (λ (m : Machine). spec.storeDirect m a v p) ⌝ }
 {
     let pa = p.address;
     let b = *bytes;
@@ -87,13 +82,10 @@ fn store_buffered(
     v: u32,
     p: Place,
 ) -> Outcome
-    requires { ⌜ Fits (now memory) (now words) (now bytes) (s .used) × (length (now memory) % 32 ≡ 0) × (isWidth (a .width) ≡ true)
-        × PlaceRanged (aligned.cleared a) p × (aborts (physical (now memory)) (p .address) ≡ false) ⌝ }
+    requires { ⌜ MissReady (now memory) (now words) (now bytes) (s .used) a p × (aborts (physical (now memory)) (p .address) ≡ false) ⌝ }
     ensures { λ r.
-        ⌜ ((lines pointers store : List ℕ)
-        → Leaves (lists (now (memory .entry)) (now (words .entry)) (now (bytes .entry)) lines pointers store) s
-        (lists (now (memory .exit)) (now (words .exit)) (now (bytes .exit)) lines pointers store) r
-        (λ (m : Machine). spec.storeBuffered m a v p)) ⌝ }
+        ⌜ LeavesBelow (now (memory .entry)) (now (words .entry)) (now (bytes .entry)) s (now (memory .exit)) (now (words .exit)) (now (bytes .exit)) r
+        (λ (m : Machine). spec.storeBuffered m a v p) ⌝ }
 {
     let used = buffer::store(memory, words, bytes, s.used, p.address, a.width, v);
     stored(machine::with_used(s, used))
@@ -124,13 +116,10 @@ fn store_miss(
     v: u32,
     p: Place,
 ) -> Outcome
-    requires { ⌜ Fits (now memory) (now words) (now bytes) (s .used) × (length (now memory) % 32 ≡ 0) × (isWidth (a .width) ≡ true)
-        × PlaceRanged (aligned.cleared a) p ⌝ }
+    requires { ⌜ MissReady (now memory) (now words) (now bytes) (s .used) a p ⌝ }
     ensures { λ r.
-        ⌜ ((lines pointers store : List ℕ)
-        → Leaves (lists (now (memory .entry)) (now (words .entry)) (now (bytes .entry)) lines pointers store) s
-        (lists (now (memory .exit)) (now (words .exit)) (now (bytes .exit)) lines pointers store) r
-        (λ (m : Machine). spec.storeMiss m a v p)) ⌝ }
+        ⌜ LeavesBelow (now (memory .entry)) (now (words .entry)) (now (bytes .entry)) s (now (memory .exit)) (now (words .exit)) (now (bytes .exit)) r
+        (λ (m : Machine). spec.storeMiss m a v p) ⌝ }
 {
     let r = s.cp15.registers;
     if bus::aborts(memory, p.address) {
@@ -154,8 +143,8 @@ pub fn store(
     v: u32,
     p: Place,
 ) -> Outcome
-    requires { ⌜ Fits (now memory) (now words) (now bytes) (s .used) × (length (now lines) ≡ 512) × (length (now cached) ≡ 16384)
-        × (length (now memory) % 32 ≡ 0) × (s .counts .hits < countLimit) × (isWidth (a .width) ≡ true) × PlaceRanged (aligned.cleared a) p ⌝ }
+    requires { ⌜ MissReady (now memory) (now words) (now bytes) (s .used) a p × (length (now lines) ≡ 512) × (length (now cached) ≡ 16384)
+        × (s .counts .hits < countLimit) ⌝ }
     ensures { λ r.
         ⌜ ((pointers : List ℕ)
         → Leaves (lists (now (memory .entry)) (now (words .entry)) (now (bytes .entry)) (now (lines .entry)) pointers (now (cached .entry))) s

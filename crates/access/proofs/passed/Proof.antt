@@ -14,8 +14,12 @@ enum-known-k c = search needs
 
 store-requires : tie.Need-store-requires
 store-requires c κs =
-    let start = c .before .before .before .before .before .before .before .before .before .before .before .before .before in
-    (start .pre .0 .fits, start .pre .0 .lines-long, start .pre .0 .store-long, start .pre .0 .whole, start .pre .0 .hits, start .pre .1, start .pre .2)
+    let start = c .before .before .before .before .before .before .before .before .before .before .before .before .before in (
+      record { fits = start .pre .0 .fits; whole = start .pre .0 .whole; width = start .pre .1; place = start .pre .2 },
+      start .pre .0 .lines-long,
+      start .pre .0 .store-long,
+      start .pre .0 .hits,
+    )
 
 same-length : tie.Need-same-length
 same-length c = search needs

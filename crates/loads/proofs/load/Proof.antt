@@ -70,14 +70,14 @@ same-length-7 c = search needs
 returns-2 : tie.Need-returns-2
 returns-2 c =
     let after-load-miss = c .before .before .before .before .before .before .before .before .before .before in
-    let of-enum-told = after-load-miss .before .before .before .before .before .before .before in let after-find = of-enum-told .before .before in
+    let arm-told = after-load-miss .before .before .before .before .before .before .before in let after-find = arm-told .before .before in
     let after-cleared = after-find .before .before in let start = after-cleared .before .before .before .before .before .before in
     let a = start .args in
     let l = (lists (now (a .memory)) (now (a .words)) (now (a .bytes)) (now (a .lines)) (now (a .pointers)) (now (a .store))) in
     record {
       same = λ es n. after-load-miss .load-miss .ensures .same es n ∙ sym
           (found-none (machineOf l es (a .s) n) (a .a) (a .p) _ (after-cleared .cleared .ensures)
-          (sym (after-find .find .ensures) ∙ of-enum-told .enum-told .given .1));
+          (sym (after-find .find .ensures) ∙ arm-told .enum-told .given .1));
       bytes-long = after-load-miss .load-miss .ensures .bytes-long;
     }
 

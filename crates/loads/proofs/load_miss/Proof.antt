@@ -72,8 +72,10 @@ returns-2 c =
 load-uncached-requires : tie.Need-load-uncached-requires
 load-uncached-requires c κs =
     let else1 = c .before .before .before .before .before in let after-aborts = else1 .before in
-    let start = after-aborts .before .before .before .before .before .before .before .before in
-    (start .pre .0 .fits, start .pre .0 .whole, start .pre .1, start .pre .2, sym (after-aborts .aborts .ensures) ∙ else1 .if1 .left)
+    let start = after-aborts .before .before .before .before .before .before .before .before in (
+      record { fits = start .pre .0 .fits; whole = start .pre .0 .whole; width = start .pre .1; place = start .pre .2 },
+      sym (after-aborts .aborts .ensures) ∙ else1 .if1 .left,
+    )
 
 same-length-7 : tie.Need-same-length-7
 same-length-7 c = search needs

@@ -1,10 +1,6 @@
 use Rattle.loads.proofs.Laws.{uncached-left}
 use Rattle.machine.specs.Lists.{lists}
-use Rattle.reach.proofs.Bounds.{in-block}
-use Rattle.translation.proofs.Laws.{access-fits}
-use Rattle.bus.proofs.Laws.{answers}
-use Rattle.bus.specs.Physical.{physical}
-use lib.ListN.{length}
+use Rattle.reach.proofs.Bounds.{in-block, lies-inside}
 use mathlib.Core.Path.{refl}
 use native.Mathlib.Omega.{arith}
 use denote.Ref.{now}
@@ -15,19 +11,18 @@ use Rattle.loads.proofs.load_uncached.Tie as tie
 ready-access-requires : tie.Need-ready-access-requires
 ready-access-requires c κs =
     let start = c .before .before .before .before .before .before in
-    (start .pre .0, start .pre .2, in-block (start .args .a) (start .args .p .address .0) (start .pre .2) (start .pre .3 .within))
+    (start .pre .0 .fits, start .pre .0 .width, in-block (start .args .a) (start .args .p .address .0) (start .pre .0 .width) (start .pre .0 .place .within))
 
 cast-load : tie.Need-cast-load
 cast-load c = search needs
 
 load-requires : tie.Need-load-requires
 load-requires c κs =
-    let arm-memory = c .before .before .before .before .before in
-    let start = arm-memory .before .before .before .before .before .before .before .before in
+    let given-memory = c .before .before .before .before .before in
+    let start = given-memory .before .before .before .before .before .before .before .before in
     let a = start .args in
-    let i = answers (physical (now (a .memory))) (a .p .address) (start .pre .4) in
-    let h = access-fits (a .a) (a .p .address .0) (length (now (a .memory))) (start .pre .2) (start .pre .3 .within) (omega (arith, i)) (start .pre .1) in
-    (start .pre .2, omega (arith, h, arm-memory .memory .given))
+    let h = lies-inside (now (a .memory)) (now (a .words)) (now (a .bytes)) (a .s .used) (a .a) (a .p) (start .pre .0) (start .pre .1) in
+    (start .pre .0 .width, omega (arith, h, given-memory .memory .given))
 
 with-used-requires : tie.Need-with-used-requires
 with-used-requires c κs = search needs
@@ -36,7 +31,7 @@ load-answer-requires : tie.Need-load-answer-requires
 load-answer-requires c κs =
     let after-load = c .before in
     let start = after-load .before .before .before .before .before .before .before .before .before .before .before .before .before .before in
-    (start .pre .2, after-load .load .ensures .fits)
+    (start .pre .0 .width, after-load .load .ensures .fits)
 
 same-length : tie.Need-same-length
 same-length c = search needs

@@ -41,13 +41,13 @@ counted-requires c κs = search needs
 done-requires : tie.Need-done-requires
 done-requires c κs =
     let else2 = c .before .before .before .before .before .before .before .before in let after-refusal = else2 .before in
-    let else1 = after-refusal .before in let of-struct-known = else1 .before in
-    let start = of-struct-known .before .before .before .before .before .before .before in
+    let else1 = after-refusal .before in let known-scalars = else1 .before in
+    let start = known-scalars .before .before .before .before .before .before .before in
     let a = start .args in
     let l = (lists (now (a .memory)) (now (a .words)) (now (a .bytes)) (now (a .lines)) (now (a .pointers)) (now (a .store))) in
     let es = now (a .entries) in
     let n = length (now (a .memory)) in
-    let low : a .s .counts .calls < countLimit = omega (arith, else1 .if1 .left, of-struct-known .struct-known .given) in
+    let low : a .s .counts .calls < countLimit = omega (arith, else1 .if1 .left, known-scalars .struct-known .given) in
     let e = sym (c .counted .ensures) in (
       start .pre .0,
       subst (λ (s : Scalars). TlbReady es s) e (tlb-ready l es (a .s) n (start .pre .3) low),

@@ -24,8 +24,8 @@ store-hit-requires c κs =
       start .pre .2,
       find-low (now (start .args .lines)) _ _ (start .pre .1)
           (sym (after-find .find .ensures) ∙ arm-found .found .given .1),
-      start .pre .5,
-      start .pre .4,
+      start .pre .0 .width,
+      start .pre .3,
     )
 
 enum-told : tie.Need-enum-told
@@ -50,7 +50,7 @@ returns c =
       same = λ es n. after-store-hit .store-hit .ensures (now (a .memory)) (now (a .words)) (now (a .bytes)) ps es n
           ∙ sym (store-found (machineOf (lists (now (a .memory)) (now (a .words)) (now (a .bytes)) (now (a .lines)) ps (now (a .cached))) es (a .s) n)
           (a .a) (a .v) (a .p) _ _ (after-cleared .cleared .ensures) (sym (after-find .find .ensures) ∙ arm-found .found .given .1));
-      bytes-long = start .pre .0 .bytes-long;
+      bytes-long = start .pre .0 .fits .bytes-long;
     }
 
 same-length-3 : tie.Need-same-length-3
@@ -64,14 +64,14 @@ same-length-5 c = search needs
 
 returns-2 : tie.Need-returns-2
 returns-2 c =
-    let after-store-miss = c .before .before .before .before in let of-enum-told = after-store-miss .before .before .before .before in
-    let after-find = of-enum-told .before .before in let after-cleared = after-find .before .before in
+    let after-store-miss = c .before .before .before .before in let arm-told = after-store-miss .before .before .before .before in
+    let after-find = arm-told .before .before in let after-cleared = after-find .before .before in
     let start = after-cleared .before .before .before .before .before in
     let a = start .args in
     λ ps. record {
       same = λ es n. after-store-miss .store-miss .ensures (now (a .lines)) ps (now (a .cached)) .same es n
           ∙ sym (store-none (machineOf (lists (now (a .memory)) (now (a .words)) (now (a .bytes)) (now (a .lines)) ps (now (a .cached))) es (a .s) n)
-          (a .a) (a .v) (a .p) _ (after-cleared .cleared .ensures) (sym (after-find .find .ensures) ∙ of-enum-told .enum-told .given .1));
+          (a .a) (a .v) (a .p) _ (after-cleared .cleared .ensures) (sym (after-find .find .ensures) ∙ arm-told .enum-told .given .1));
       bytes-long = after-store-miss .store-miss .ensures (now (a .lines)) ps (now (a .cached)) .bytes-long;
     }
 

@@ -8,7 +8,8 @@ use Rattle.stores.proofs.store_buffered.Tie as tie
 store-requires : tie.Need-store-requires
 store-requires c κs =
     let start = c .before .before .before .before .before in
-    let a = start .args in (start .pre .0, stores-in (now (a .memory)) (a .a) (a .p) (start .pre .2) (start .pre .3) (start .pre .4) (start .pre .1))
+    let a = start .args in
+    (start .pre .0 .fits, stores-in (now (a .memory)) (now (a .words)) (now (a .bytes)) (a .s .used) (a .a) (a .p) (start .pre .0) (start .pre .1))
 
 with-used-requires : tie.Need-with-used-requires
 with-used-requires c κs = search needs
@@ -29,7 +30,7 @@ returns c =
     let a = start .args in
     λ ls ps st. record {
       same = λ es n. buffered-left es (a .s) n (a .a) (a .v) (lists (now (a .memory)) (now (a .words)) (now (a .bytes)) ls ps st) _ (a .p) _
-          (after-store .store .last .0) (after-store .store .last .1 .0) (after-store .store .last .1 .1 .0) (after-store .store .result) (start .pre .4)
+          (after-store .store .last .0) (after-store .store .last .1 .0) (after-store .store .last .1 .1 .0) (after-store .store .result) (start .pre .1)
           (after-store .store .ensures) (after-with-used .with-used .ensures) (c .stored .ensures);
       bytes-long = after-store .store .ensures .fits .bytes-long;
     }

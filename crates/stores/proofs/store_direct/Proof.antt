@@ -1,8 +1,6 @@
 use Rattle.stores.proofs.Laws.{direct-left}
-use Rattle.translation.proofs.Laws.{access-fits}
-use Rattle.bus.proofs.Laws.{answers}
-use Rattle.bus.specs.Physical.{physical}
 use Rattle.machine.specs.Lists.{lists}
+use Rattle.reach.proofs.Bounds.{lies-inside}
 use native.Mathlib.Omega.{arith}
 use denote.Ref.{now}
 use borrow.Author.Needs.{needs}
@@ -17,12 +15,11 @@ cast-store c = search needs
 
 store-requires : tie.Need-store-requires
 store-requires c κs =
-    let arm-memory = c .before .before .before .before .before in
-    let start = arm-memory .before .before .before .before .before .before .before .before in
+    let given-memory = c .before .before .before .before .before in
+    let start = given-memory .before .before .before .before .before .before .before .before in
     let a = start .args in
-    let i = answers (physical (now (a .memory))) (a .p .address) (start .pre .4) in
-    let h = access-fits (a .a) (a .p .address .0) _ (start .pre .2) (start .pre .3 .within) (omega (arith, i)) (start .pre .1) in
-    (start .pre .2, omega (arith, h, arm-memory .memory .given))
+    let h = lies-inside (now (a .memory)) (now (a .words)) (now (a .bytes)) (a .s .used) (a .a) (a .p) (start .pre .0) (start .pre .1) in
+    (start .pre .0 .width, omega (arith, h, given-memory .memory .given))
 
 with-used-requires : tie.Need-with-used-requires
 with-used-requires c κs = search needs

@@ -14,7 +14,7 @@ aborts-requires c κs = search needs
 store-aborted-requires : tie.Need-store-aborted-requires
 store-aborted-requires c κs =
     let start = c .before .before .before .before .before .before in
-    start .pre .3 .domain
+    start .pre .place .domain
 
 same-length : tie.Need-same-length
 same-length c = search needs
@@ -26,7 +26,7 @@ returns c =
     λ ls ps st. record {
       same = λ es n. c .store-aborted .ensures (lists (now (a .memory)) (now (a .words)) (now (a .bytes)) ls ps st) es n (a .v)
           (sym (after-aborts .aborts .ensures) ∙ then1 .if1 .taken);
-      bytes-long = start .pre .0 .bytes-long;
+      bytes-long = start .pre .fits .bytes-long;
     }
 
 buffers-requires : tie.Need-buffers-requires
@@ -36,7 +36,7 @@ store-buffered-requires : tie.Need-store-buffered-requires
 store-buffered-requires c κs =
     let else1 = c .before .before .before .before .before in let after-aborts = else1 .before in
     let start = after-aborts .before .before .before .before .before in
-    (start .pre .0, start .pre .1, start .pre .2, start .pre .3, sym (after-aborts .aborts .ensures) ∙ else1 .if1 .left)
+    (start .pre, sym (after-aborts .aborts .ensures) ∙ else1 .if1 .left)
 
 same-length-2 : tie.Need-same-length-2
 same-length-2 c = search needs
@@ -60,7 +60,7 @@ store-direct-requires : tie.Need-store-direct-requires
 store-direct-requires c κs =
     let else1 = c .before .before .before .before .before in let after-aborts = else1 .before in
     let start = after-aborts .before .before .before .before .before in
-    (start .pre .0, start .pre .1, start .pre .2, start .pre .3, sym (after-aborts .aborts .ensures) ∙ else1 .if1 .left)
+    (start .pre, sym (after-aborts .aborts .ensures) ∙ else1 .if1 .left)
 
 same-length-4 : tie.Need-same-length-4
 same-length-4 c = search needs
