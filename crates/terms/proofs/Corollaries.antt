@@ -39,6 +39,7 @@ use Rattle.terms.specs.Term3.{AllNumbers, Run}
 use Rattle.terms.specs.Corollaries.{All32, callsMade, SettledBy, LentRun, SameRun, LentRuns, CodeRun, CodeAgrees, AnyStore, CodeAnyStore}
 use Rattle.terms.specs.Corollaries.{cleanLine, drainBuffer, cleanAndDrain, StoredThrough, BeforeCleaning, AfterCleaning, CleanedMemory}
 use Rattle.terms.proofs.Term3.{term3}
+use Rattle.terms.proofs.Appends.{numbers-append, keeps-append, history-append}
 
 -- ---- 1. a run over lent lists
 
@@ -92,9 +93,9 @@ module _ (memory store list answers : List ℕ) (r : LentRun memory store list a
       let t = term3 memory store cs as-calls in
       let e = sym plain-is in
       record {
-        same-answers = ap (λ (x : List Answer). map codeOf x ++ drop (length cs) answers) (t .0) ∙ ap (λ (x : PlainLeft). x .left .answers) e;
+        same-answers = ap (λ (x : List Answer). map codeOf x ++ drop (length cs) answers) (t .same-answers) ∙ ap (λ (x : PlainLeft). x .left .answers) e;
         same-made = ap (λ (x : PlainLeft). x .left .made) e;
-        same-memory = λ h. t .1 h ∙ ap (λ (x : PlainLeft). x .left .machine .memory) e;
+        same-memory = λ h. t .same-memory h ∙ ap (λ (x : PlainLeft). x .left .machine .memory) e;
       }
 
 pub lent-runs : LentRuns
@@ -132,7 +133,7 @@ pub any-store : AnyStore
 any-store memory store₁ store₂ calls r₁ r₂ =
     let t₁ = term3 memory store₁ calls r₁ in
     let t₂ = term3 memory store₂ calls r₂ in
-    (t₁ .0 ∙ sym (t₂ .0), λ h. t₁ .1 h ∙ sym (t₂ .1 h))
+    (t₁ .same-answers ∙ sym (t₂ .same-answers), λ h. t₁ .same-memory h ∙ sym (t₂ .same-memory h))
 
 pub code-any-store : CodeAnyStore
 code-any-store memory list answers store k s memory₁ store₁ answers₁ r c other l t memory₂ store₂ answers₂ q d = (
@@ -143,23 +144,6 @@ code-any-store memory list answers store k s memory₁ store₁ answers₁ r c o
 )
 
 -- ---- 3. memory after cleaning and draining
-
--- two lists of calls, one after the other
-module _ (ys : List Call) where
-  numbers-append : (xs : List Call) → AllNumbers xs → AllNumbers ys → AllNumbers (xs ++ ys)
-  unfolding AllNumbers
-  numbers-append [] m n = n
-  numbers-append (x ∷ xs) m n = (m .0, numbers-append xs (m .1) n)
-
-  keeps-append : (xs : List Call) (p : Plain) (h : History) → Keeps p h xs → Keeps (plainFinal p xs) (historyAfter p h xs) ys → Keeps p h (xs ++ ys)
-  unfolding Keeps finalOf historyAfter
-  keeps-append [] p h k l = l
-  keeps-append (x ∷ xs) p h k l = (k .0, keeps-append xs (plainly p x .plain) (after p h x) (k .1) l)
-
-  history-append : (xs : List Call) (p : Plain) (h : History) → historyAfter p h (xs ++ ys) ≡ historyAfter (plainFinal p xs) (historyAfter p h xs) ys
-  unfolding finalOf historyAfter
-  history-append [] p h = refl
-  history-append (x ∷ xs) p h = history-append xs (plainly p x .plain) (after p h x)
 
 -- stages
 clean-stored : (b : Bool) (s : Stage) → isStored (afterClean b s) ≡ true → (b ≡ false) × (isStored s ≡ true)
@@ -280,7 +264,7 @@ module _ (memory store : List ℕ) (calls : List Call) (vs : List ℕ) (c : Befo
       record {
         keeps = run;
         settled = settled;
-        same-memory = term3 memory store (calls ++ cleanAndDrain vs) run .1 settled ∙ after ∙ k .memory;
+        same-memory = term3 memory store (calls ++ cleanAndDrain vs) run .same-memory settled ∙ after ∙ k .memory;
       }
 
 pub cleaned-memory : CleanedMemory

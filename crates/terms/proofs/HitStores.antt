@@ -164,7 +164,7 @@ module _ (n : ℕ) (s : Side) (k : SideIs n s) (pm : List ℕ) (long : length pm
   -- ---- the history
 
   abbrev h′ : History
-  h′ = withStore h va l
+  h′ = withStore h va (l .address)
 
   stored-line : (j : ℕ) → at (c′ .lines) j .valid ≡ true → (at (c′ .lines) j .low || at (c′ .lines) j .high) ≡ true
       → (isStored (h′ .lineStage (at (c′ .lines) j .frame)) ≡ true) × (h′ .through (at (c′ .lines) j .frame) ≡ virtualAt (c′ .lines) j)
@@ -182,7 +182,7 @@ module _ (n : ℕ) (s : Side) (k : SideIs n s) (pm : List ℕ) (long : length pm
       let b : (at (c .lines) j .low || at (c .lines) j .high) ≡ true = subst (λ (y : Line). (y .low || y .high) ≡ true) r d in
       rw (r, f) (g .cache .dirty-stored j (was-valid j u) b, g .cache .dirty-through j (was-valid j u) b))
 
-  pub hit-store-side : SideAgrees (sideFrom (hitStore (s .cache) i va w v) (s .backing)) (stored w pm (l .address .0) v) (withStore h va l)
+  pub hit-store-side : SideAgrees (sideFrom (hitStore (s .cache) i va w v) (s .backing)) (stored w pm (l .address .0) v) (withStore h va (l .address))
   hit-store-side =
       record {
         cache = record {
@@ -195,6 +195,6 @@ module _ (n : ℕ) (s : Side) (k : SideIs n s) (pm : List ℕ) (long : length pm
           one = g .cache .one;
         };
         under = under′;
-        words = staged-hit n (s .backing) (k .backing) pm long w v (byWord h) (byWord (withStore h va l)) a (words-stored h va l w fits) (g .words);
-        lines = staged-hit n (s .backing) (k .backing) pm long w v (byLine h) (byLine (withStore h va l)) a (lines-stored h va l w fits) (g .lines);
+        words = staged-hit n (s .backing) (k .backing) pm long w v (byWord h) (byWord (withStore h va (l .address))) a (words-stored h va l w fits) (g .words);
+        lines = staged-hit n (s .backing) (k .backing) pm long w v (byLine h) (byLine (withStore h va (l .address))) a (lines-stored h va l w fits) (g .lines);
       }

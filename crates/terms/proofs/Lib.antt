@@ -26,4 +26,15 @@ pub mod WritesAlike
 pub mod StartAgrees
 pub mod CallsAlike
 pub mod Term3
+pub mod Appends
+pub mod Quantified
+pub mod StageAt
+pub mod CallHistory
+pub mod HistoryAt
+pub mod CallRules
+pub mod ReachedAt
+pub mod BaseAt
+pub mod CleanedAt
+pub mod GroupAt
+pub mod Positions
 pub mod Corollaries

@@ -36,8 +36,8 @@ module _ (n : ℕ) (s : Side) (k : SideIs n s) (pm : List ℕ) (long : length pm
 
   -- a backing whose bytes below are the plain machine's after the store where they were before, or are stored
   side-with : (b : Backing) → ((x : ℕ) → (Outside a w x → below (s .backing) x ≡ getD pm x 0) → below b x ≡ getD pm′ x 0)
-      → Staged b pm′ (byWord (withStore h va l)) → Staged b pm′ (byLine (withStore h va l))
-      → SideAgrees (sideFrom (s .cache) b) pm′ (withStore h va l)
+      → Staged b pm′ (byWord (withStore h va (l .address))) → Staged b pm′ (byLine (withStore h va (l .address)))
+      → SideAgrees (sideFrom (s .cache) b) pm′ (withStore h va (l .address))
   side-with b f p q =
       record {
         cache = record {
@@ -64,21 +64,21 @@ module _ (n : ℕ) (s : Side) (k : SideIs n s) (pm : List ℕ) (long : length pm
     abbrev b : Backing
     b = s .backing
 
-    pub buffered-side : SideAgrees (sideFrom (s .cache) (buffered (s .backing) (l .address) w v)) (stored w pm (l .address .0) v) (withStore h va l)
+    pub buffered-side : SideAgrees (sideFrom (s .cache) (buffered (s .backing) (l .address) w v)) (stored w pm (l .address .0) v) (withStore h va (l .address))
     buffered-side =
         side-with (buffered b (l .address) w v)
-        (below-buffered n b (k .backing) pm long w v (byWord h) (byWord (withStore h va l)) (l .address) wide half block-inside)
-        (staged-buffered n b (k .backing) pm long w v (byWord h) (byWord (withStore h va l)) (l .address) wide half block-inside
+        (below-buffered n b (k .backing) pm long w v (byWord h) (byWord (withStore h va (l .address))) (l .address) wide half block-inside)
+        (staged-buffered n b (k .backing) pm long w v (byWord h) (byWord (withStore h va (l .address))) (l .address) wide half block-inside
         (words-stored h va l w fits) (g .words))
-        (staged-buffered n b (k .backing) pm long w v (byLine h) (byLine (withStore h va l)) (l .address) wide half block-inside
+        (staged-buffered n b (k .backing) pm long w v (byLine h) (byLine (withStore h va (l .address))) (l .address) wide half block-inside
         (lines-stored h va l w fits) (g .lines))
 
     pub direct-side : SideAgrees (sideFrom (s .cache) (withMemory (drained (s .backing)) (stored w (drained (s .backing) .memory) (l .address .0) v)))
-        (stored w pm (l .address .0) v) (withStore h va l)
+        (stored w pm (l .address .0) v) (withStore h va (l .address))
     direct-side =
         side-with (withMemory (drained b) (stored w (drained b .memory) (l .address .0) v))
-        (below-direct n b (k .backing) pm long w v (byWord h) (byWord (withStore h va l)) (l .address) wide half block-inside)
-        (staged-direct n b (k .backing) pm long w v (byWord h) (byWord (withStore h va l)) (l .address) wide half block-inside
+        (below-direct n b (k .backing) pm long w v (byWord h) (byWord (withStore h va (l .address))) (l .address) wide half block-inside)
+        (staged-direct n b (k .backing) pm long w v (byWord h) (byWord (withStore h va (l .address))) (l .address) wide half block-inside
         (words-stored h va l w fits) (g .words))
-        (staged-direct n b (k .backing) pm long w v (byLine h) (byLine (withStore h va l)) (l .address) wide half block-inside
+        (staged-direct n b (k .backing) pm long w v (byLine h) (byLine (withStore h va (l .address))) (l .address) wide half block-inside
         (lines-stored h va l w fits) (g .lines))

@@ -24,16 +24,16 @@ inside-or a w x f g =
 
 module _ (h : History) (va : VirtualAddress) (l : Place) (w : ℕ) (fits : l .address .0 % 4 + w ≤ 4) where
   -- the words that are not at stage `stored` after the store, and the lines: their bytes lie outside it, and their stage is what it was
-  pub words-stored : (x : ℕ) → isStored (byWord (withStore h va l) x) ≡ false
-      → (byWord (withStore h va l) x ≡ byWord h x) × Outside (l .address .0) w x
+  pub words-stored : (x : ℕ) → isStored (byWord (withStore h va (l .address)) x) ≡ false
+      → (byWord (withStore h va (l .address)) x ≡ byWord h x) × Outside (l .address .0) w x
   words-stored x e =
       case (eqb (x / 4) (wordOf (l .address)))
-      (λ t. let z : isStored (byWord (withStore h va l) x) ≡ true = rw t in clash z e)
+      (λ t. let z : isStored (byWord (withStore h va (l .address)) x) ≡ true = rw t in clash z e)
       (λ t. (rw t, λ a b. eqb-false (x / 4) (wordOf (l .address)) t (omega arith)))
 
-  pub lines-stored : (x : ℕ) → isStored (byLine (withStore h va l) x) ≡ false
-      → (byLine (withStore h va l) x ≡ byLine h x) × Outside (l .address .0) w x
+  pub lines-stored : (x : ℕ) → isStored (byLine (withStore h va (l .address)) x) ≡ false
+      → (byLine (withStore h va (l .address)) x ≡ byLine h x) × Outside (l .address .0) w x
   lines-stored x e =
       case (eqb (x / 32) (physicalLine (l .address)))
-      (λ t. let z : isStored (byLine (withStore h va l) x) ≡ true = rw t in clash z e)
+      (λ t. let z : isStored (byLine (withStore h va (l .address)) x) ≡ true = rw t in clash z e)
       (λ t. (rw t, λ a b. eqb-false (x / 32) (physicalLine (l .address)) t (omega arith)))

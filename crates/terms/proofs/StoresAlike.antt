@@ -48,17 +48,19 @@ module _ (n : ℕ) (m : Machine) (p : Plain) (h : History) (a : Access) (v : ℕ
   -- ---- the word answers: the store is made
 
   module _ (b : aborts (plainPhysical p) (l .address) ≡ false) where
-    after-in : after ≡ withStore h (cleared a) l
+    after-in : after ≡ withStore h (cleared a) (l .address)
     unfolding afterStore
     after-in = rw b
 
     -- with a side that agrees after the store, and counts with as many calls
-    stored-alike : (s : Side) (c : Counts) → SideAgrees s (stored (a .width) (p .memory) pa v) (withStore h (cleared a) l) → c .calls ≡ m .counts .calls
+    stored-alike : (s : Side) (c : Counts) → SideAgrees s (stored (a .width) (p .memory) pa v) (withStore h (cleared a) (l .address))
+        → c .calls ≡ m .counts .calls
         → Alike n (answersZero (withCounts (withSide m s) c)) (plainStore p a v l) after
     stored-alike s c g q =
         let x = answersZero (withCounts (withSide m s) c) in
         subst (λ (f : History). Alike n x (plainStore p a v l) f) (sym after-in)
-        (alike-by n x x (plainStore p a v l) (plainStepped (plainWritten p a v l) (answer.Value 0)) (withStore h (cleared a) l) refl (store-in p a l v b)
+        (alike-by n x x (plainStore p a v l) (plainStepped (plainWritten p a v l) (answer.Value 0)) (withStore h (cleared a) (l .address)) refl
+        (store-in p a l v b)
         (record {
           same-answer = refl;
           registers = k .shared .registers;

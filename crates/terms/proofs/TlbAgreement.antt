@@ -217,7 +217,7 @@ module _ (base : ℕ) (pm : List ℕ) (h : History) where
 
     -- a store inside a word
     pub tlb-stored : (w v : ℕ) (va : VirtualAddress) (l : Place) → l .address .0 % 4 + w ≤ 4
-        → TlbAgrees entries base (stored w pm (l .address .0) v) (withStore h va l)
+        → TlbAgrees entries base (stored w pm (l .address .0) v) (withStore h va (l .address))
     tlb-stored w v va l f = record { mapped = λ k j u c r. walk-old u r ∙ t .mapped k j u c (readable-old u r) }
       where
         x : ℕ
@@ -230,7 +230,7 @@ module _ (base : ℕ) (pm : List ℕ) (h : History) where
         same-aborts = aborts-same new (physical pm) (length-stored w pm x v)
 
         test : ℕ → Bool
-        test n = isFlushed (withStore h va l .wordStage n)
+        test n = isFlushed (withStore h va (l .address) .wordStage n)
 
         -- a word that may be walked after the store is not the one stored to
         other : (n : ℕ) → test n ≡ true → (n ≡ x / 4 → ⊥) × (isFlushed (h .wordStage n) ≡ true)
@@ -246,10 +246,10 @@ module _ (base : ℕ) (pm : List ℕ) (h : History) where
             (λ k. let q = ltb-true n (x / 4) k in load-before 4 w pm x (n * 4) v (omega arith))
             (λ k. let q = ltb-false n (x / 4) k in load-behind 4 w pm x (n * 4) v (omega arith))
 
-        walk-old : (u : VirtualAddress) → Readable (new .bytes) base (withStore h va l) u → walk new base u ≡ walk (physical pm) base u
+        walk-old : (u : VirtualAddress) → Readable (new .bytes) base (withStore h va (l .address)) u → walk new base u ≡ walk (physical pm) base u
         walk-old u r = walk-where new (physical pm) same-aborts test same base u r
 
-        readable-old : (u : VirtualAddress) → Readable (new .bytes) base (withStore h va l) u → Readable pm base h u
+        readable-old : (u : VirtualAddress) → Readable (new .bytes) base (withStore h va (l .address)) u → Readable pm base h u
         readable-old u r =
             subst (λ (ws : List ℕ). all (λ (n : ℕ). isFlushed (h .wordStage n)) ws ≡ true) (reads-where new (physical pm) same-aborts test same base u r)
             (all-weaker test (λ (n : ℕ). isFlushed (h .wordStage n)) (λ n e. other n e .1) (wordsRead new base u) r)

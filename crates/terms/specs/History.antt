@@ -6,6 +6,7 @@ use mathlib.Core.List.{List, [], _∷_}
 use lib.Dec.{eqb}
 use Rattle.values.specs.Addresses.{virtualLine, physicalLine, wordOf}
 use Rattle.values.specs.declared.VirtualAddress.{VirtualAddress}
+use Rattle.values.specs.declared.PhysicalAddress.{PhysicalAddress}
 use Rattle.values.specs.declared.Kind.{Kind}
 use Rattle.values.specs.declared.Kind.the-variants.{Load, SignedLoad, Store}
 use Rattle.values.specs.declared.Transfer.{Transfer}
@@ -14,7 +15,6 @@ use Rattle.values.specs.declared.Call.the-variants.{Read, Write}
 use Rattle.values.specs.declared.Call.the-variants as calls
 use Rattle.bus.specs.Physical.{Physical, aborts}
 use Rattle.translation.specs.Alignment.{cleared}
-use Rattle.translation.specs.declared.Place.{Place}
 use Rattle.translation.specs.declared.Checked.{Checked}
 use Rattle.translation.specs.declared.Checked.the-variants.{Passed, Denied}
 use Rattle.cp15.specs.Operations.{flushesDcache, cleansLine, drains, flushesTlb}
@@ -76,32 +76,37 @@ afterTlbFlush flushed = flushed
 abbrev pub lineOfWord : ℕ → ℕ
 lineOfWord w = w / 8
 
--- "every data access whose translation and rights pass reaches a line, even one outside memory"
-unfoldable pub afterReach : History → VirtualAddress → Checked → History
-afterReach h va (Denied s d) = h
-afterReach h va (Passed l) =
+-- a virtual line reaches a physical line
+abbrev pub withReach : History → VirtualAddress → PhysicalAddress → History
+withReach h va pa =
     record {
-      reached = λ v p. (eqb v (virtualLine va) && eqb p (physicalLine (l .address))) || h .reached v p;
+      reached = λ v p. (eqb v (virtualLine va) && eqb p (physicalLine pa)) || h .reached v p;
       through = h .through;
       lineStage = h .lineStage;
       wordStage = h .wordStage;
       baseStale = h .baseStale;
     }
 
-abbrev pub withStore : History → VirtualAddress → Place → History
-withStore h va l =
+-- "every data access whose translation and rights pass reaches a line, even one outside memory"
+unfoldable pub afterReach : History → VirtualAddress → Checked → History
+afterReach h va (Denied s d) = h
+afterReach h va (Passed l) = withReach h va (l .address)
+
+-- a line and a word of it are stored to, through a virtual line
+abbrev pub withStore : History → VirtualAddress → PhysicalAddress → History
+withStore h va pa =
     record {
       reached = h .reached;
-      through = λ p. cond (eqb p (physicalLine (l .address))) (virtualLine va) (h .through p);
-      lineStage = λ p. cond (eqb p (physicalLine (l .address))) stored (h .lineStage p);
-      wordStage = λ w. cond (eqb w (wordOf (l .address))) stored (h .wordStage w);
+      through = λ p. cond (eqb p (physicalLine pa)) (virtualLine va) (h .through p);
+      lineStage = λ p. cond (eqb p (physicalLine pa)) stored (h .lineStage p);
+      wordStage = λ w. cond (eqb w (wordOf pa)) stored (h .wordStage w);
       baseStale = h .baseStale;
     }
 
 -- a store, "dropped ones left out"
 unfoldable pub afterStore : History → Physical → VirtualAddress → Checked → History
 afterStore h memory va (Denied s d) = h
-afterStore h memory va (Passed l) = cond (aborts memory (l .address)) h (withStore h va l)
+afterStore h memory va (Passed l) = cond (aborts memory (l .address)) h (withStore h va (l .address))
 
 -- what an access of a kind stores
 abbrev pub afterKind : Kind → History → Physical → VirtualAddress → Checked → History

@@ -1,5 +1,6 @@
 pub mod History
 pub mod Rules
+pub mod Positions
 pub mod Term1
 pub mod Term2
 pub mod Term3
