@@ -1,0 +1,2 @@
+pub mod BitI
+pub mod PlainBitI

@@ -1,0 +1,1 @@
+// "I has no effect here." stands in specs/ and is proved in proofs/.
