@@ -9,10 +9,11 @@ use Rattle.tlb.proofs.Words.{entries-injective}
 use Rattle.buffer.proofs.Words.{slots-injective}
 use Rattle.cache.proofs.Words.{lines-injective}
 use Rattle.sa110.specs.State.{bytesOf, machineIn}
-use Rattle.sa110.specs.Held.{EightPlaces, SameHeld}
+use Rattle.sa110.specs.Held.{EightPlaces, SameSide, SameHeld}
 use Rattle.sa110.specs.declared.SlotBytes.{SlotBytes}
 use Rattle.sa110.specs.declared.State.{State}
-use Rattle.machine.specs.Machine.{Machine, memoryOf, storeOf}
+use Rattle.cache.specs.Dcache.{Side}
+use Rattle.machine.specs.Machine.{Machine}
 
 abbrev bytes : SlotBytes → List ℕ
 bytes s = s .bytes
@@ -32,23 +33,39 @@ state-is : (s t : State) → s .size ≡ t .size → s .counts ≡ t .counts →
     → s .pointers ≡ t .pointers → s .words ≡ t .words → s .slots ≡ t .slots → s ≡ t
 state-is s t a b c d e f g h = rw (a, b, c, d, e, f, g, h)
 
+-- what Dcache, write buffer and memory tell
+pub side-same : (memory₁ store₁ : List ℕ) (s₁ : State) (r₁ : Cp15) (memory store : List ℕ) (s : State) (r : Cp15)
+    → EightPlaces s₁ → EightPlaces s → machineIn memory₁ store₁ s₁ r₁ .side ≡ machineIn memory store s r .side
+    → SameSide memory₁ store₁ s₁ memory store s
+side-same memory₁ store₁ s₁ r₁ memory store s r h k e =
+    let slots = ap (λ (x : Side). x .backing .buffer .slots) e in
+    let places = slots-injective (s₁ .words) (s .words) (bytesOf (s₁ .slots)) (bytesOf (s .slots)) (as-many s₁ h) (as-many s k) slots in
+    record {
+      same-memory = ap (λ (x : Side). x .backing .memory) e;
+      same-store = ap (λ (x : Side). x .cache .store) e;
+      same-lines = lines-injective (s₁ .lines) (s .lines) (ap (λ (x : Side). x .cache .lines) e);
+      same-pointers = ap (λ (x : Side). x .cache .pointers) e;
+      same-words = places .0;
+      same-slots = bytes-injective (s₁ .slots) (s .slots) (places .1);
+      same-used = ap (λ (x : Side). x .backing .buffer .used) e;
+    }
+
 pub held-same : (memory₁ store₁ : List ℕ) (s₁ : State) (r₁ : Cp15) (memory store : List ℕ) (s : State) (r : Cp15)
     → EightPlaces s₁ → EightPlaces s → machineIn memory₁ store₁ s₁ r₁ ≡ machineIn memory store s r
     → SameHeld memory₁ store₁ s₁ r₁ memory store s r
 held-same memory₁ store₁ s₁ r₁ memory store s r h k e =
-    let slots = ap (λ (m : Machine). m .side .backing .buffer .slots) e in
-    let places = slots-injective (s₁ .words) (s .words) (bytesOf (s₁ .slots)) (bytesOf (s .slots)) (as-many s₁ h) (as-many s k) slots in
+    let side = side-same memory₁ store₁ s₁ r₁ memory store s r h k (ap (λ (m : Machine). m .side) e) in
     record {
       same-state = state-is s₁ s
           (ap (λ (m : Machine). m .size) e)
           (ap (λ (m : Machine). m .counts) e)
-          (ap (λ (m : Machine). m .side .backing .buffer .used) e)
+          (side .same-used)
           (entries-injective (s₁ .entries) (s .entries) (ap (λ (m : Machine). m .entries) e))
-          (lines-injective (s₁ .lines) (s .lines) (ap (λ (m : Machine). m .side .cache .lines) e))
-          (ap (λ (m : Machine). m .side .cache .pointers) e)
-          (places .0)
-          (bytes-injective (s₁ .slots) (s .slots) (places .1));
+          (side .same-lines)
+          (side .same-pointers)
+          (side .same-words)
+          (side .same-slots);
       same-cp15 = ap (λ (m : Machine). m .cp15) e;
-      same-memory = ap memoryOf e;
-      same-store = ap storeOf e;
+      same-memory = side .same-memory;
+      same-store = side .same-store;
     }

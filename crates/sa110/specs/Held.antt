@@ -12,6 +12,16 @@ pub record EightPlaces (s : State) : Type 0 where
   pub words-long : length (s .words) ≡ 8
   pub slots-long : length (s .slots) ≡ 8
 
+-- memory, cache store, and the state's words of the Dcache and the write buffer are the same
+pub record SameSide (memory₁ store₁ : List ℕ) (s₁ : State) (memory store : List ℕ) (s : State) : Type 0 where
+  pub same-memory : memory₁ ≡ memory
+  pub same-store : store₁ ≡ store
+  pub same-lines : s₁ .lines ≡ s .lines
+  pub same-pointers : s₁ .pointers ≡ s .pointers
+  pub same-words : s₁ .words ≡ s .words
+  pub same-slots : s₁ .slots ≡ s .slots
+  pub same-used : s₁ .used ≡ s .used
+
 -- every word of the state, every number of the record, and every lent byte is the same
 pub record SameHeld (memory₁ store₁ : List ℕ) (s₁ : State) (r₁ : Cp15) (memory store : List ℕ) (s : State) (r : Cp15) : Type 0 where
   pub same-state : s₁ ≡ s

@@ -1,8 +1,16 @@
 -- What a call and a start leave, by their refusal: a refused one changes nothing, any other call answers a value or a fault.
 use Prim.Native.Nat.{ℕ}
+use native.Mathlib.Omega.{arith}
+use mathlib.Core.Path.{_≡_, refl, subst}
 use mathlib.Core.List.{List}
+use lib.Dec.{eqb}
 use borrow.Author.Tests.{eq-eqb, ne-eqb}
+use Rattle.values.specs.Answers.{fsrOf}
 use Rattle.values.specs.Counts.{counted}
+use Rattle.values.specs.declared.VirtualAddress.{VirtualAddress}
+use Rattle.values.specs.declared.Fault.{Fault}
+use Rattle.values.specs.declared.Answer.{Answer}
+use Rattle.values.specs.declared.Answer.the-variants as answer
 use Rattle.values.specs.declared.Kind.{Kind}
 use Rattle.values.specs.declared.Kind.the-variants.{Load, SignedLoad, Store}
 use Rattle.values.specs.declared.Access.{Access}
@@ -17,11 +25,12 @@ use Rattle.words.specs.Signed.{loadAnswer}
 use Rattle.bus.specs.Physical.{aborts}
 use Rattle.cache.specs.Dcache.{find}
 use Rattle.translation.specs.Alignment.{cleared}
-use Rattle.translation.specs.Faults.{fills, buffers, fillStatus, otherStatus}
+use Rattle.translation.specs.Faults.{fills, buffers, fillStatus, otherStatus, faultSet}
+use Rattle.translation.specs.declared.Translation.{Translation}
 use Rattle.translation.specs.declared.Place.{Place}
 use Rattle.translation.specs.declared.Checked.{Checked}
 use Rattle.translation.specs.declared.Checked.the-variants.{Passed, Denied}
-use Rattle.machine.specs.Machine.{Machine, physicalOf, withCounts}
+use Rattle.machine.specs.Machine.{Machine, physicalOf, withCounts, Stepped}
 use Rattle.reach.specs.Reach.{decision, committed, faulted}
 use Rattle.loads.specs.Loads.{loadHit, loadFill, loadUncached, loadMiss, loadFound, load}
 use Rattle.stores.specs.Stores.{storeHit, storeBuffered, storeDirect, storeMiss, storeFound, store}
@@ -32,68 +41,113 @@ use Rattle.step.specs.Start.{started}
 use Rattle.step.specs.Call.{done, served}
 use Rattle.terms.specs.Term1.{ValueOrFault, Term1At, Term1Start}
 
--- ---- every accepted call answers a value or a fault
+-- ---- what holds of every fault, and of whatever answers a value, holds of every accepted call
 
-load-value : (k : Kind) (width v : ℕ) → ValueOrFault (loadAnswer k width v)
+-- an answer that is a value
+abbrev IsValue : Answer → Type 0
+IsValue (answer.Value v) = Unit {0}
+IsValue (answer.Signed z) = Unit {0}
+IsValue (answer.Fault f) = ⊥
+IsValue (answer.Refused n) = ⊥
+
+load-value : (k : Kind) (width v : ℕ) → IsValue (loadAnswer k width v)
 load-value Load width v = tt
 load-value SignedLoad width v = tt
 load-value (Store x) width v = tt
 
-module _ (m : Machine) (a : Access) where
-  fault-answers : (s : Status) (d : ℕ) → ValueOrFault (faulted m s d (a .address) .answer)
-  unfolding faulted
-  fault-answers s d = tt
+module _ (P : Stepped → Type 0) (value : (x : Stepped) → IsValue (x .answer) → P x) where
+  module _ (m : Machine) (a : Access) (fault : (s : Status) (d : ℕ) → P (faulted m s d (a .address))) where
+    module _ (p : Place) where
+      load-miss-by : P (loadMiss m a p)
+      unfolding loadMiss loadFill loadUncached
+      load-miss-by =
+          case (fills (m .cp15 .registers) p)
+          (λ f.
+          case (aborts (physicalOf m) (p .address)) (λ h. rw (f, h) (fault (fillStatus p) (p .domain)))
+          (λ h. rw (f, h) (value _ (load-value (a .kind) (a .width) _))))
+          (λ f.
+          case (aborts (physicalOf m) (p .address)) (λ h. rw (f, h) (fault (otherStatus p) (p .domain)))
+          (λ h. rw (f, h) (value _ (load-value (a .kind) (a .width) _))))
 
-  module _ (p : Place) where
-    load-miss-answers : ValueOrFault (loadMiss m a p .answer)
-    unfolding loadMiss loadFill loadUncached
-    load-miss-answers =
-        case (fills (m .cp15 .registers) p)
-        (λ f.
-        case (aborts (physicalOf m) (p .address)) (λ h. rw (f, h) (fault-answers (fillStatus p) (p .domain)))
-        (λ h. rw (f, h) (load-value (a .kind) (a .width) _)))
-        (λ f.
-        case (aborts (physicalOf m) (p .address)) (λ h. rw (f, h) (fault-answers (otherStatus p) (p .domain)))
-        (λ h. rw (f, h) (load-value (a .kind) (a .width) _)))
+      load-found-by : (x : Search) → P (loadFound m a p x)
+      unfolding loadHit
+      load-found-by (At i) = value _ (load-value (a .kind) (a .width) _)
+      load-found-by Nothing = load-miss-by
 
-    load-found-answers : (x : Search) → ValueOrFault (loadFound m a p x .answer)
-    unfolding loadHit
-    load-found-answers (At i) = load-value (a .kind) (a .width) _
-    load-found-answers Nothing = load-miss-answers
+      store-miss-by : (v : ℕ) → P (storeMiss m a v p)
+      unfolding storeMiss storeBuffered storeDirect
+      store-miss-by v =
+          case (buffers (m .cp15 .registers) p) (λ f. rw f (value _ tt))
+          (λ f.
+          case (aborts (physicalOf m) (p .address)) (λ h. rw (f, h) (fault (otherStatus p) (p .domain)))
+          (λ h. rw (f, h) (value _ tt)))
 
-    store-miss-answers : (v : ℕ) → ValueOrFault (storeMiss m a v p .answer)
-    unfolding storeMiss storeBuffered storeDirect
-    store-miss-answers v =
-        case (buffers (m .cp15 .registers) p) (λ f. rw f tt)
-        (λ f.
-        case (aborts (physicalOf m) (p .address)) (λ h. rw (f, h) (fault-answers (otherStatus p) (p .domain)))
-        (λ h. rw (f, h) tt))
+      store-found-by : (v : ℕ) (x : Search) → P (storeFound m a v p x)
+      unfolding storeHit
+      store-found-by v (At i) = value _ tt
+      store-found-by v Nothing = store-miss-by v
 
-    store-found-answers : (v : ℕ) (x : Search) → ValueOrFault (storeFound m a v p x .answer)
-    unfolding storeHit
-    store-found-answers v (At i) = tt
-    store-found-answers v Nothing = store-miss-answers v
+      passed-by : (k : Kind) → P (passed m a p k)
+      unfolding load store
+      passed-by Load = load-found-by (find (m .side .cache .lines) (cleared a))
+      passed-by SignedLoad = load-found-by (find (m .side .cache .lines) (cleared a))
+      passed-by (Store v) = store-found-by v (find (m .side .cache .lines) (cleared a))
 
-    passed-answers : (k : Kind) → ValueOrFault (passed m a p k .answer)
-    unfolding load store
-    passed-answers Load = load-found-answers (find (m .side .cache .lines) (cleared a))
-    passed-answers SignedLoad = load-found-answers (find (m .side .cache .lines) (cleared a))
-    passed-answers (Store v) = store-found-answers v (find (m .side .cache .lines) (cleared a))
+    at-by : (c : Checked) → P (accessAt m a c)
+    unfolding accessAt
+    at-by (Denied s d) = fault s d
+    at-by (Passed p) = passed-by p (a .kind)
 
-  at-answers : (c : Checked) → ValueOrFault (accessAt m a c .answer)
-  unfolding accessAt
-  at-answers (Denied s d) = fault-answers s d
-  at-answers (Passed p) = passed-answers p (a .kind)
+  pub done-by : (m : Machine) → ((t : Translation) (s : Status) (d : ℕ) (va : VirtualAddress) → P (faulted (committed m t) s d va)) → (c : Call) → P (done m c)
+  unfolding access cp15.read cp15.write
+  done-by m fault (calls.Access a) =
+      let d = decision m a in at-by (committed m (d .mapping)) a (λ s x. fault (d .mapping) s x (a .address)) (d .checked)
+  done-by m fault (Read t) = value _ tt
+  done-by m fault (Write t v) = value _ tt
 
-access-answers : (m : Machine) (a : Access) → ValueOrFault (access m a .answer)
-unfolding access
-access-answers m a = let d = decision m a in at-answers (committed m (d .mapping)) a (d .checked)
+-- ---- every accepted call answers a value or a fault
+
+value-or-fault : (x : Stepped) → IsValue (x .answer) → ValueOrFault (x .answer)
+value-or-fault x v = by (x .answer) v
+  where
+    by : (y : Answer) → IsValue y → ValueOrFault y
+    by (answer.Value v) u = tt
+    by (answer.Signed z) u = tt
+    by (answer.Fault f) u = tt
+    by (answer.Refused n) u = absurd u
 
 done-answers : (m : Machine) (c : Call) → ValueOrFault (done m c .answer)
-unfolding cp15.read cp15.write
-done-answers m (calls.Access a) = access-answers m a
-done-answers m (Read t) = tt
-done-answers m (Write t v) = tt
+unfolding faulted
+done-answers m c = done-by (λ x. ValueOrFault (x .answer)) value-or-fault m (λ t s d va. tt) c
+
+-- ---- what a fault leaves
+
+-- "A fault sets FSR, and FAR to the address given. Of the rest only the TLB and counts may change."
+pub record FaultKeeps (m : Machine) (f : Fault) (x : Machine) : Type 0 where
+  pub sets-fsr : x .cp15 .registers .fsr ≡ fsrOf f
+  pub sets-far : x .cp15 .registers .far ≡ f .address .0
+  pub side : x .side ≡ m .side
+  pub size : x .size ≡ m .size
+  pub control : x .cp15 .registers .control ≡ m .cp15 .registers .control
+  pub base : x .cp15 .registers .base ≡ m .cp15 .registers .base
+  pub domains : x .cp15 .registers .domains ≡ m .cp15 .registers .domains
+
+-- no value is a fault, and a fault is one fault
+no-fault : (y : Answer) → IsValue y → (f : Fault) → y ≡ answer.Fault f → ⊥
+no-fault (answer.Value v) u f e = let z : _≡_ {A = ℕ} 0 1 = cc in absurd (omega arith)
+no-fault (answer.Signed x) u f e = let z : _≡_ {A = ℕ} 0 1 = cc in absurd (omega arith)
+no-fault (answer.Fault g) u f e = u
+no-fault (answer.Refused n) u f e = u
+
+done-fault : (m : Machine) (c : Call) (f : Fault) → done m c .answer ≡ answer.Fault f → FaultKeeps m f (done m c .machine)
+unfolding faulted committed faultSet
+done-fault m c =
+    done-by (λ x. (f : Fault) → x .answer ≡ answer.Fault f → FaultKeeps m f (x .machine)) (λ x v f e. absurd (no-fault (x .answer) v f e)) m
+    (λ t s d va f e.
+    let g : Fault = record { status = s; domain = d; address = va } in
+    let q : g ≡ f = cc in
+    subst (λ (y : Fault). FaultKeeps m y (faulted (committed m t) s d va .machine)) q (record { sets-fsr = refl; sets-far = refl; side = refl; size = refl; control = refl; base = refl; domains = refl }))
+    c
 
 -- ---- a call and a start, by their refusal
 
@@ -112,3 +166,26 @@ start-by-refusal memory store =
       refused = λ z. rw (ne-eqb (startRefusal memory store) 0 z);
       answered = λ e. rw e;
     }
+
+-- a call that answers a fault
+pub served-fault : (m : Machine) (c : Call) (f : Fault) → served m c .answer ≡ answer.Fault f → FaultKeeps m f (served m c .machine)
+unfolding served
+served-fault m c f e =
+    case (eqb (refusal m c) 0)
+    (λ t.
+    let e₁ : done (withCounts m (counted (m .counts))) c .answer ≡ answer.Fault f = rw t at e in
+    let k = done-fault (withCounts m (counted (m .counts))) c f e₁ in
+    rw t
+    (record {
+      sets-fsr = k .sets-fsr;
+      sets-far = k .sets-far;
+      side = k .side;
+      size = k .size;
+      control = k .control;
+      base = k .base;
+      domains = k .domains;
+    }))
+    (λ t.
+    let e₁ : answer.Refused (refusal m c) ≡ answer.Fault f = rw t at e in
+    let z : _≡_ {A = ℕ} 0 1 = cc in
+    absurd (omega arith))

@@ -1,5 +1,5 @@
 pub mod Answers
-pub mod RefusedWords
+pub mod Callers
 pub mod Term1
 pub mod Term2
 pub mod Invariant

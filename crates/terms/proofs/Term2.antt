@@ -55,6 +55,7 @@ use Rattle.access.specs.Access.{passed, accessAt, access}
 use Rattle.cp15.specs.Operations as cp15
 use Rattle.step.specs.Meets.{refusal}
 use Rattle.step.specs.Call.{done, served}
+use Rattle.terms.proofs.Callers.{fault-leaves}
 use Rattle.terms.specs.Term2.{isOutside, wordIn, hasBits, isNothing, entryOf, placeBy, rows, Faulting, faults, passes, faultIn, tableFault, Term2}
 
 -- ---- cases
@@ -292,6 +293,9 @@ done-fault m (calls.Access a) = access-fault (withCounts m (counted (m .counts))
 done-fault m (Read t) = refl
 done-fault m (Write t v) = refl
 
-pub term2 : Term2
+by-table : (m : Machine) (c : Call) → refusal m c ≡ 0 → faultIn (served m c .answer) ≡ tableFault m c
 unfolding served
-term2 m c e = rw (eq-eqb (refusal m c) 0 e) (done-fault m c)
+by-table m c e = rw (eq-eqb (refusal m c) 0 e) (done-fault m c)
+
+pub term2 : Term2
+term2 = record { faults-by-table = by-table; fault-leaves = fault-leaves }

@@ -1,5 +1,5 @@
 -- Term 1: "A call that meets a condition of document 01's list of refusals is refused by that number and changes nothing. Every other call, on
--- any bytes, ends with a value or a fault, always the same for the same contents." (The last part: `served` is a function.)
+-- any bytes, ends with a value or a fault, always the same for the same contents."
 use Prim.Native.Nat.{ℕ}
 use mathlib.Core.Path.{_≡_}
 use mathlib.Core.List.{List}
@@ -9,7 +9,7 @@ use Rattle.values.specs.declared.Answer.{Answer}
 use Rattle.values.specs.declared.Answer.the-variants as answer
 use Rattle.step.specs.Meets.{startRefusal, refusal}
 use Rattle.step.specs.Start.{startedFrom, started}
-use Rattle.terms.specs.RefusedWords.{RefusedWords}
+use Rattle.terms.specs.Callers.{CodeTerm1}
 use Rattle.step.specs.Call.{served}
 use Rattle.machine.specs.Machine.{Machine, fresh}
 use Rattle.machine.specs.Machine.{steppedFrom}
@@ -34,5 +34,5 @@ pub record Term1Start (memory store : List ℕ) : Type 0 where
 pub record Term1 : Type 0 where
   pub start : (memory store : List ℕ) → Term1Start memory store
   pub call : (m : Machine) (c : Call) → Term1At m c
-  -- the same of the code's words and bytes
-  pub words : RefusedWords
+  -- of the code, in words and bytes
+  pub code : CodeTerm1

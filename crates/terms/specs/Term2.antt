@@ -41,6 +41,7 @@ use Rattle.bus.specs.Reader.{descriptorAt}
 use Rattle.bus.specs.declared.Descriptor.{Descriptor}
 use Rattle.bus.specs.declared.Descriptor.the-variants.{Word, Outside}
 use Rattle.machine.specs.Machine.{Machine, physicalOf}
+use Rattle.terms.specs.Callers.{FaultLeaves}
 
 -- ---- the walk's words
 
@@ -161,6 +162,8 @@ tableFault m (calls.Access a) = firstMet passes (rows m a)
 tableFault m (Read t) = passes
 tableFault m (Write t v) = passes
 
--- "faults exactly when the tables say, with that status, domain and address"
-abbrev pub Term2 : Type 0
-Term2 = (m : Machine) (c : Call) → refusal m c ≡ 0 → faultIn (served m c .answer) ≡ tableFault m c
+pub record Term2 : Type 0 where
+  -- "faults exactly when the tables say, with that status, domain and address"
+  pub faults-by-table : (m : Machine) (c : Call) → refusal m c ≡ 0 → faultIn (served m c .answer) ≡ tableFault m c
+  -- and what a fault leaves, of the code
+  pub fault-leaves : FaultLeaves
