@@ -62,6 +62,12 @@ calls-numbers list f (suc n) i =
     ))
     (λ t. rw t tt)
 
+-- a memory on which a start is served has a length that fits
+pub length-fits : (memory store : List ℕ) → startRefusal memory store ≡ 0 → lengthFits (length memory) ≡ true
+unfolding startRefusal
+length-fits memory store h =
+    not-false (lengthFits (length memory)) (row-passed (row1 (length memory)) (row2 (length store) ∷ []) (omega arith) h .0)
+
 module _ (memory store list answers : List ℕ) (r : LentRun memory store list answers) where
   abbrev cs : List Call
   cs = callsMade list answers
@@ -77,15 +83,8 @@ module _ (memory store list answers : List ℕ) (r : LentRun memory store list a
         keeps = r .keeps;
       }
 
-  -- a memory on which a start is served has a length that fits
-  length-fits : lengthFits (length memory) ≡ true
-  unfolding startRefusal
-  length-fits =
-      not-false (lengthFits (length memory))
-      (row-passed (row1 (length memory)) (row2 (length store) ∷ []) (omega arith) (r .served-start) .0)
-
   plain-is : plainRun memory list answers ≡ withRefusal (leftBy (plainStart memory) cs answers) 0
-  plain-is = run-by memory list answers (min (length list / 5) (length answers)) length-fits refl
+  plain-is = run-by memory list answers (min (length list / 5) (length answers)) (length-fits memory store (r .served-start)) refl
 
   same-run : SameRun memory store list answers
   unfolding run leftOf

@@ -43,7 +43,7 @@ module _ (n i : ℕ) (list : List ℕ) where
 -- ---- the loop
 
 module _ {S : Type 0} (next : S → Call → S) (answer : S → Call → Answer) where
-  answers-long : (s : S) (cs : List Call) → length (answersOf next answer s cs) ≡ length cs
+  pub answers-long : (s : S) (cs : List Call) → length (answersOf next answer s cs) ≡ length cs
   unfolding answersOf
   answers-long s [] = refl
   answers-long s (c ∷ cs) = ap suc (answers-long (next s c) cs)
@@ -53,6 +53,12 @@ module _ {S : Type 0} (next : S → Call → S) (answer : S → Call → Answer)
   unfolding finalOf
   final-append s [] ds = refl
   final-append s (c ∷ cs) ds = final-append (next s c) cs ds
+
+  pub answers-append : (s : S) (cs ds : List Call)
+      → answersOf next answer s (cs ++ ds) ≡ answersOf next answer s cs ++ answersOf next answer (finalOf next answer s cs) ds
+  unfolding answersOf finalOf
+  answers-append s [] ds = refl
+  answers-append s (c ∷ cs) ds = ap (λ (l : List Answer). answer s c ∷ l) (answers-append (next s c) cs ds)
 
   -- what a run leaves that stands before call i, with some calls to come
   unfoldable pub leaving : S → ℕ → List Call → List ℕ → Left S
