@@ -1,6 +1,6 @@
 -- Term 3 of any use of the library, proved.
 use Prim.Native.Nat.{ℕ, _/_, min}
-use mathlib.Core.Bool.{true, false, cond}
+use mathlib.Core.Bool.{true}
 use mathlib.Core.Path.{_≡_, refl, sym, _∙_, ap, subst}
 use mathlib.Core.List.{List, [], _∷_, _++_, map}
 use lib.ListN.{length, length-map, take, drop}
@@ -8,7 +8,6 @@ use lib.Seq.{take-append-seam}
 use Rattle.values.specs.declared.Call.{Call}
 use Rattle.values.specs.declared.Answer.{Answer}
 use Rattle.values.proofs.Cases.{case}
-use Rattle.refusals.specs.Refusals.{lengthFits}
 use Rattle.trace.specs.Calls.{isCall, callOf}
 use Rattle.trace.specs.Codes.{codeOf}
 use Rattle.trace.specs.Fold.{Left, answersOf, finalOf, leftOf}
@@ -18,7 +17,7 @@ use Rattle.step.specs.Meets.{startRefusal}
 use Rattle.step.specs.Start as starts
 use Rattle.step.specs.Run.{next, answered, answers, final, run}
 use Rattle.step.proofs.Runs.{numbers-of}
-use Rattle.plain.specs.Plain.{Plain, plainStart, plainNext, plainAnswered, plainAnswers, plainFinal}
+use Rattle.plain.specs.Plain.{plainStart, plainNext, plainAnswered, plainAnswers}
 use Rattle.plain.specs.Run.{PlainLeft, withRefusal, leftBy}
 use Rattle.plain.proofs.Runs.{run-by}
 use Rattle.lent.specs.Coded.{Coded, calledBy}
