@@ -164,7 +164,7 @@ module _ (memory : List ℕ) (list : List Call) where
   -- ---- R3
 
   pub r3-steps : (j : ℕ) → ((f : ℕ) → f ≤ j → at.r3 memory list f ≡ true) → (l : ℕ) → covers l j ≡ true → isStored (H j .lineStage l) ≡ false
-  unfolding at.r3
+  unfolding at.r3By
   r3-steps j all l c = line-by l isStored false refl j (λ i b s u. cleaned-line l i j b s u (clean i b s u))
     where
       -- a flush that covers the line, the first since its last store
@@ -188,7 +188,7 @@ module _ (memory : List ℕ) (list : List Call) where
           (λ t. first i j b (omega arith) s u c t)
 
   pub steps-r3 : (j : ℕ) → ((l : ℕ) → covers l j ≡ true → isStored (H j .lineStage l) ≡ false) → at.r3 memory list j ≡ true
-  unfolding at.r3
+  unfolding at.r3By
   steps-r3 j f =
       each-true _ j
       (λ i b.

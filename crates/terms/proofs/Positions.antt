@@ -121,11 +121,11 @@ module _ (memory : List ℕ) (list : List Call) where
 
   steps-of : Keeps (plainStart memory) noHistory list → Steps
   unfolding hist
-  steps-of k j b = keeps-each at.noCall list (plainStart memory) noHistory k j b
+  steps-of k j b = keeps-each at.pastEnd list (plainStart memory) noHistory k j b
 
   of-steps : Steps → Keeps (plainStart memory) noHistory list
   unfolding hist
-  of-steps f = each-keeps at.noCall list (plainStart memory) noHistory f
+  of-steps f = each-keeps at.pastEnd list (plainStart memory) noHistory f
 
   -- every rule at every position, also behind the end, where no call is served
   kept : Keeps (plainStart memory) noHistory list → (j : ℕ) → At j
@@ -179,7 +179,7 @@ module _ (memory : List ℕ) (list : List Call) where
 
   -- a line is settled where every line stored to is
   any-line : at.settled memory list ≡ true → (l : ℕ) → at.settledLine memory list l ≡ true
-  unfolding at.settled at.settledBy
+  unfolding at.allSettledBy at.settledBy
   any-line e l =
       each-true _ n
       (λ i b.
@@ -194,7 +194,7 @@ module _ (memory : List ℕ) (list : List Call) where
       (and-both (at.storesLine memory list (at.lineAt memory list i) i) (at.lastToLine memory list i n) own m)))
 
   all-ends : Settled last → at.settled memory list ≡ true
-  unfolding at.settled
+  unfolding at.allSettledBy
   all-ends f = each-true _ n (λ i b. given-true (at.stores memory list i) _ (λ s. line-ends (at.lineAt memory list i) (f (at.lineAt memory list i))))
 
 pub same-rules : SameRules

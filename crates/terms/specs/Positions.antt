@@ -64,13 +64,13 @@ addressIn (Denied s d) = record { 0 = 0 }
 addressIn (Passed l) = l .address
 
 -- what stands behind the list's end, where no call is served
-abbrev pub noCall : Call
-noCall = Read (record { privileged = false; register = 0; opcode = 0; crm = 0 })
+abbrev pub pastEnd : Call
+pastEnd = Read (record { privileged = false; register = 0; opcode = 0; crm = 0 })
 
 module _ (memory : List ℕ) (list : List Call) where
   -- call j, and the plain machine that it gets
   abbrev pub call : ℕ → Call
-  call j = getD list j noCall
+  call j = getD list j pastEnd
 
   abbrev pub before : ℕ → Plain
   before j = plainFinal (plainStart memory) (take j list)
@@ -176,8 +176,11 @@ module _ (memory : List ℕ) (list : List Call) where
   r2-virtual j = each j (λ i. given (bothReach i j && eqb (virtualAt i) (virtualAt j)) (eqb (lineAt i) (lineAt j)))
 
   -- "before a Dcache flush each line it covers that was stored to since the last flush covering it has been cleaned after its last store"
-  unfoldable pub r3 : ℕ → Bool
-  r3 j = each j (λ i. given (covers (lineAt i) j && (lastToLine i j && not (some i j (covers (lineAt i))))) (cleanedSince i j))
+  unfoldable pub r3By : (ℕ → ℕ → Bool) → ℕ → Bool
+  r3By since j = each j (λ i. given (covers (lineAt i) j && (lastToLine i j && not (some i j (covers (lineAt i))))) (since i j))
+
+  abbrev pub r3 : ℕ → Bool
+  r3 = r3By cleanedSince
 
   -- "a word read by the plain walk of an access has, after its last store, had its line cleaned, then a drain, then a whole TLB flush"
   unfoldable pub r4By : (ℕ → ℕ → Bool) → ℕ → Bool
@@ -231,5 +234,8 @@ module _ (memory : List ℕ) (list : List Call) where
   settledLine = settledBy drainedSince
 
   -- and for each line stored to
-  unfoldable pub settled : Bool
-  settled = each (length list) (λ i. given (stores i) (settledLine (lineAt i)))
+  unfoldable pub allSettledBy : (ℕ → ℕ → Bool) → Bool
+  allSettledBy since = each (length list) (λ i. given (stores i) (settledBy since (lineAt i)))
+
+  abbrev pub settled : Bool
+  settled = allSettledBy drainedSince

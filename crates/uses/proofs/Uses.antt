@@ -76,7 +76,7 @@ use-numbers (many list answers answers₁ made k) f = calls-numbers list f (min 
 
 -- ---- a chain
 
-chain-is : (us : List Use) (l : Lent) → Chain l us
+pub chain-is : (us : List Use) (l : Lent) → Chain l us
     → (codesOf us ≡ map codeOf (answers (machine l) (callsOf us))) × (machine (lastOf l us) ≡ final (machine l) (callsOf us))
 unfolding Chain callsOf codesOf lastOf answersOf finalOf
 chain-is [] l c = (refl, refl)
