@@ -1,4 +1,5 @@
--- `unfolding computing` opens every definition that a call computes with.
+-- `unfolding computing` opens every definition that a call of the library computes with; `unfolding computing computingPlainly`, also those of a
+-- call of the plain machine.
 use Rattle.values.specs.Control.{kept, listed, controlRead}
 use Rattle.values.specs.Lists.{all, any, sum, firstFrom}
 use Rattle.words.specs.Words.{stored, valueAt}
@@ -26,6 +27,7 @@ use Rattle.step.specs.Call.{served}
 use Rattle.trace.specs.Fold.{answersOf, finalOf}
 use Rattle.bus.specs.Reader.{descriptorAt}
 use Rattle.machine.specs.Machine.{fresh}
+use Rattle.plain.specs.Plain as plain
 
 unfoldable pub computing : Unit {0}
 unfolding kept listed controlRead all any sum firstFrom stored valueAt signedBy rights descriptorAt first second walk covers lookup translated apOf
@@ -37,3 +39,8 @@ unfolding kept listed controlRead all any sum firstFrom stored valueAt signedBy 
     stores.storeBuffered stores.storeDirect stores.storeMiss stores.store access.accessAt access.access readOf writtenOf cp15.operated cp15.read
     cp15.write refusal stateRefusal startRefusal started served answersOf finalOf
 computing = tt
+
+unfoldable pub computingPlainly : Unit {0}
+unfolding plain.plainStart plain.plainFaulted plain.plainReach plain.plainLoad plain.plainStore plain.plainAt plain.plainAccess plain.plainRead
+    plain.plainWrite plain.plainRefusal plain.plainly
+computingPlainly = tt

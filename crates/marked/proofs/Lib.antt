@@ -1,2 +1,3 @@
 pub mod Computing
 pub mod MarkedCases
+pub mod PlainCases

@@ -2,6 +2,8 @@
 use mathlib.Core.Path.{refl}
 use Rattle.marked.proofs.Computing.{computing}
 use Rattle.marked.specs.MarkedCases.{
+  run,
+  runWith,
   MarkedCases,
   M1,
   M2,
@@ -22,23 +24,23 @@ use Rattle.marked.specs.MarkedCases.{
   M12,
 }
 
-m1 : M1
+m1 : M1 run
 unfolding computing
 m1 = refl
 
-m2 : M2
+m2 : M2 run
 unfolding computing
 m2 = refl
 
-m3 : M3
+m3 : M3 run
 unfolding computing
 m3 = refl
 
-m4-set : M4-set
+m4-set : M4-set runWith
 unfolding computing
 m4-set = refl
 
-m4-clear : M4-clear
+m4-clear : M4-clear runWith
 unfolding computing
 m4-clear = refl
 
@@ -54,11 +56,11 @@ m6-word : M6-word
 unfolding computing
 m6-word = refl
 
-m6 : M6
+m6 : M6 runWith
 unfolding computing
 m6 = refl
 
-m7 : M7
+m7 : M7 runWith
 unfolding computing
 m7 = refl
 
@@ -66,27 +68,27 @@ m8-word : M8-word
 unfolding computing
 m8-word = refl
 
-m8 : M8
+m8 : M8 runWith
 unfolding computing
 m8 = refl
 
-m9 : M9
+m9 : M9 runWith
 unfolding computing
 m9 = refl
 
-m9-domain : M9-domain
+m9-domain : M9-domain runWith
 unfolding computing
 m9-domain = refl
 
-m10 : M10
+m10 : M10 runWith
 unfolding computing
 m10 = refl
 
-m11 : M11
+m11 : M11 run
 unfolding computing
 m11 = refl
 
-m12 : M12
+m12 : M12 runWith
 unfolding computing
 m12 = refl
 
