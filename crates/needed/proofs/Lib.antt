@@ -1,3 +1,6 @@
 pub mod Computing
 pub mod Hypotheses
+pub mod Whole
+pub mod Rows
 pub mod Witness
+pub mod Needed

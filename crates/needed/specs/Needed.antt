@@ -1,0 +1,290 @@
+-- Each rule is needed. For each part of a rule, and of the end, a short list of calls keeps all the rest, and the library answers it otherwise than
+-- the plain machine, or is left with another memory.
+use Prim.Native.Nat.{ℕ}
+use mathlib.Core.Bool.{Bool, true, false, not, _&&_, _||_}
+use mathlib.Core.List.{List, [], _∷_, _++_}
+use mathlib.Core.Path.{_≡_}
+use lib.Dec.{eqb}
+use lib.ListN.{getD, replicate}
+use Rattle.values.specs.declared.Call.{Call}
+use Rattle.values.specs.declared.Answer.{Answer}
+use Rattle.values.specs.declared.Answer.the-variants.{Value}
+use Rattle.values.specs.declared.Status.the-variants.{WalkFirst, WalkSecond, TranslationSection, TranslationPage, FillPage, OtherSection}
+use Rattle.words.specs.Words.{valueAt}
+use Rattle.bus.specs.Physical.{aborts}
+use Rattle.cp15.specs.Operations as cp15
+use Rattle.machine.specs.Machine.{memoryOf}
+use Rattle.step.specs.Start.{started}
+use Rattle.step.specs.Run.{answers}
+use Rattle.plain.specs.Plain.{plainStart, plainPhysical, plainAnswers}
+use Rattle.terms.specs.Positions.{each, some, given, before, writes, flushesDcache, drains, flushesTlb, addressAt, lineAt, stores, translates}
+use Rattle.terms.specs.Positions.{lastToLine, covers, cleanedSince, drainedSince, throughout, settledBy}
+use Rattle.terms.specs.Positions as positions
+use Rattle.terms.specs.Term3.{RunUnder}
+use Rattle.terms.specs.Term3 as term3
+use Rattle.marked.specs.MarkedCases.{write, fault}
+use Rattle.needed.specs.Calls.{load, store, flush, flushLine, clean, drain, flushTlb, enabled, fromWords, twoWords, twice, zeroStore, last}
+
+-- ---- the rules, and what is left of a rule without a part of it
+
+-- a test of a call of a list, and of what came between two calls: from the start's memory, the list and positions in it
+abbrev pub Test : Type 0
+Test = List ℕ → List Call → ℕ → Bool
+
+abbrev pub Since : Type 0
+Since = List ℕ → List Call → ℕ → ℕ → Bool
+
+-- the rules that a list of calls keeps or breaks
+pub data Rule : Type 0 where
+  R2 : Rule
+  R3 : Rule
+  R4 : Rule
+  R5 : Rule
+  R6 : Rule
+
+-- R2: "each physical line is reached through one virtual line and each virtual line reaches one physical line"
+abbrev pub r2 : Test
+r2 memory list j = positions.r2-physical memory list j && positions.r2-virtual memory list j
+
+-- R6: "the aligned group of sixteen words round that level 2 word lies in memory and all are equal"
+abbrev pub r6 : Test
+r6 memory list j = positions.r6-inside memory list j && positions.r6-equal memory list j
+
+-- a rule's test
+abbrev pub test : Rule → Test
+test R2 = r2
+test R3 = positions.r3
+test R4 = positions.r4
+test R5 = positions.r5
+test R6 = r6
+
+-- R2 to R6 by five tests, each at every call
+abbrev pub keepsBy : Test → Test → Test → Test → Test → List ℕ → List Call → Bool
+keepsBy a b c d e memory list =
+    throughout memory list (a memory list)
+    && (throughout memory list (b memory list)
+    && (throughout memory list (c memory list)
+    && (throughout memory list (d memory list) && throughout memory list (e memory list))))
+
+-- R2 to R6 with one of them replaced by what is left of it
+abbrev pub keepsBut : Rule → Test → List ℕ → List Call → Bool
+keepsBut R2 left = keepsBy left positions.r3 positions.r4 positions.r5 r6
+keepsBut R3 left = keepsBy r2 left positions.r4 positions.r5 r6
+keepsBut R4 left = keepsBy r2 positions.r3 left positions.r5 r6
+keepsBut R5 left = keepsBy r2 positions.r3 positions.r4 left r6
+keepsBut R6 left = keepsBy r2 positions.r3 positions.r4 positions.r5 left
+
+-- R2 with its second half for translated accesses alone; for accesses inside memory alone
+abbrev pub r2-translated : Test
+r2-translated memory list j = positions.r2-physical memory list j && given (translates memory list j) (positions.r2-virtual memory list j)
+
+abbrev pub r2-inside : Test
+r2-inside memory list j =
+    positions.r2-physical memory list j
+    && given (not (aborts (plainPhysical (before memory list j)) (addressAt memory list j))) (positions.r2-virtual memory list j)
+
+-- nothing is left
+abbrev pub nothing : Test
+nothing memory list j = true
+
+-- R3 is left for line flushes alone, and the list has none; for whole flushes alone, and it has none
+abbrev pub noLineFlush : Test
+noLineFlush memory list j = not (writes memory list cp15.flushesLine j)
+
+abbrev pub noWholeFlush : Test
+noWholeFlush memory list j = not (flushesDcache memory list j)
+
+-- R3 with another test for "has been cleaned after its last store"
+abbrev pub r3By : Since → Test
+r3By since memory list j =
+    each j
+    (λ i.
+    let l = lineAt memory list i in
+    given (covers memory list l j && (lastToLine memory list i j && not (some i j (covers memory list l)))) (since memory list i j))
+
+-- R4 with another test for "has, after its last store, had its line cleaned, then a drain, then a whole TLB flush"
+abbrev pub r4By : Since → Test
+r4By since memory list = positions.r4By memory list (since memory list)
+
+-- "all are equal", of those of the sixteen words that lie in memory
+abbrev pub equalInMemory : Test
+equalInMemory memory list =
+    positions.ofGroup memory list
+    (λ p a two. aborts (plainPhysical p) (record { 0 = a }) || eqb (valueAt 4 (p .memory) a) (valueAt 4 (p .memory) two))
+
+-- ---- what came after a store at i and before call j
+
+-- "then": what came first, and after it a call that meets the test
+abbrev pub followed : Since → Test → Since
+followed since test memory list i j = some i j (λ k. test memory list k && since memory list i k)
+
+-- any calls, or none
+abbrev pub anything : Since
+anything memory list i j = true
+
+-- a clean of any virtual line
+abbrev pub anyClean : Since
+anyClean = followed anything (λ memory list. writes memory list cp15.cleansLine)
+
+-- the end, "after cleaning and draining", with another test for what came after each line's last store
+abbrev pub settledBut : Since → List ℕ → List Call → Bool
+settledBut since memory list =
+    throughout memory list (λ i. given (stores memory list i) (settledBy memory list (since memory list) (lineAt memory list i)))
+
+-- Where all of a rule is left, and all of the end, these tests are term 3's.
+pub record Whole (memory : List ℕ) (list : List Call) : Type 0 where
+  pub rules : (rule : Rule) → keepsBut rule (test rule) memory list ≡ positions.keepsRules memory list
+  pub r3 : (j : ℕ) → r3By cleanedSince memory list j ≡ positions.r3 memory list j
+  pub settled : settledBut drainedSince memory list ≡ positions.settled memory list
+
+-- ---- a row
+
+-- The list keeps all that term 3 asks, but of this rule only what is left of it. The library's last answer and the plain machine's are these.
+pub record Differs (rule : Rule) (left : Test) (memory : List ℕ) (list : List Call) (library plain : Answer) : Type 0 where
+  pub run : RunUnder (keepsBut rule left memory list ≡ true) memory zeroStore list
+  pub broken : throughout memory list (test rule memory list) ≡ false
+  pub library-last : last (answers (started memory zeroStore .machine) list) ≡ library
+  pub plain-last : last (plainAnswers (plainStart memory) list) ≡ plain
+  pub differ : library ≡ plain → ⊥
+
+-- The list keeps the rules, and of what the end asks only what is left of it. The answers are the same, and the byte at this address of the library's
+-- memory and of the plain machine's are these.
+pub record DiffersAtEnd (left : Since) (memory : List ℕ) (list : List Call) (address library plain : ℕ) : Type 0 where
+  pub run : RunUnder (positions.keepsRules memory list ≡ true) memory zeroStore list
+  pub settled-but : settledBut left memory list ≡ true
+  pub broken : positions.settled memory list ≡ false
+  pub same-answers : answers (started memory zeroStore .machine) list ≡ plainAnswers (plainStart memory) list
+  pub library-has : getD (memoryOf (term3.library memory zeroStore list)) address 0 ≡ library
+  pub plain-has : getD (term3.plain memory list .memory) address 0 ≡ plain
+  pub differ : library ≡ plain → ⊥
+
+-- So term 3 fails with what a row leaves of a rule: not all answers are those of the plain machine.
+abbrev pub Refutes : Type 0
+Refutes =
+    (rule : Rule) (left : Test) (memory : List ℕ) (list : List Call) (library plain : Answer) → Differs rule left memory list library plain
+    → ((memory store : List ℕ) (list : List Call) → RunUnder (keepsBut rule left memory list ≡ true) memory store list
+    → answers (started memory store .machine) list ≡ plainAnswers (plainStart memory) list)
+    → ⊥
+
+-- and with what a row leaves of the end: memory is not the plain machine's
+abbrev pub RefutesAtEnd : Type 0
+RefutesAtEnd =
+    (left : Since) (memory : List ℕ) (list : List Call) (address library plain : ℕ) → DiffersAtEnd left memory list address library plain
+    → ((memory store : List ℕ) (list : List Call) → RunUnder (positions.keepsRules memory list ≡ true) memory store list
+    → settledBut left memory list ≡ true → memoryOf (term3.library memory store list) ≡ term3.plain memory list .memory)
+    → ⊥
+
+-- ---- R2
+
+-- "each physical line is reached through one virtual line"
+abbrev pub R2-physical : Type 0
+R2-physical = Differs R2 positions.r2-virtual twice (enabled (load 0x20 ∷ store 0x100020 7 ∷ load 0x20 ∷ [])) (Value 0) (Value 7)
+
+-- "and each virtual line reaches one physical line", with M clear too: 1020 is page 1 of the table at 0, at physical 20, and flat it is physical 1020
+abbrev pub pages : List ℕ
+pages = fromWords (1 ∷ 0xFFE ∷ replicate 6 0 ++ (9 ∷ replicate 0x407 0))
+
+abbrev pub R2-flat : Type 0
+R2-flat = Differs R2 r2-translated pages (enabled (load 0x1020 ∷ write 1 0 ∷ load 0x1020 ∷ [])) (Value 9) (Value 0)
+
+-- "every data access whose translation and rights pass reaches a line, even one outside memory"
+abbrev pub R2-outside : Type 0
+R2-outside = Differs R2 r2-inside twice (enabled (load 0x100000 ∷ write 1 0 ∷ load 0x100000 ∷ [])) (Value 0xC0E) (fault OtherSection 0 0x100000)
+
+-- ---- R3
+
+-- "before a Dcache flush each line it covers that was stored to since the last flush covering it has been cleaned after its last store": a flush of
+-- the whole Dcache, and one of a line
+abbrev pub R3-whole : Type 0
+R3-whole = Differs R3 noLineFlush twice (enabled (load 0x20 ∷ store 0x20 7 ∷ flush ∷ load 0x20 ∷ [])) (Value 0) (Value 7)
+
+abbrev pub R3-line : Type 0
+R3-line = Differs R3 noWholeFlush twice (enabled (load 0x20 ∷ store 0x20 7 ∷ flushLine 0x20 ∷ load 0x20 ∷ [])) (Value 0) (Value 7)
+
+-- "A line is cleaned, here, in R4 and at the end, under the virtual line its last store before that clean went through.": here
+abbrev pub R3-through : Type 0
+R3-through =
+    Differs R3 (r3By anyClean) twice (enabled (load 0x20 ∷ store 0x20 7 ∷ clean 0x100020 ∷ flush ∷ load 0x20 ∷ [])) (Value 0) (Value 7)
+
+-- ---- R4: "a word read by the plain walk of an access has, after its last store, had its line cleaned, then a drain, then a whole TLB flush"
+
+-- "had its line cleaned"
+abbrev pub R4-clean : Type 0
+R4-clean =
+    Differs R4 (r4By (followed (followed anything drains) flushesTlb)) twice
+    (enabled (load 0 ∷ store 8 0xC0E ∷ drain ∷ flushTlb ∷ load 0x200020 ∷ []))
+    (fault TranslationSection 0 0x200020) (Value 0)
+
+-- "under the virtual line its last store before that clean went through": in R4
+abbrev pub R4-through : Type 0
+R4-through =
+    Differs R4 (r4By (followed (followed anyClean drains) flushesTlb)) twice
+    (enabled (load 0 ∷ store 8 0xC0E ∷ clean 0x100000 ∷ drain ∷ flushTlb ∷ load 0x200020 ∷ []))
+    (fault TranslationSection 0 0x200020) (Value 0)
+
+-- "then a drain"
+abbrev pub R4-drain : Type 0
+R4-drain =
+    Differs R4 (r4By (followed cleanedSince flushesTlb)) twice (enabled (store 8 0xC0E ∷ clean 0 ∷ flushTlb ∷ load 0x200020 ∷ []))
+    (fault TranslationSection 0 0x200020) (Value 0)
+
+-- "then a whole TLB flush"
+abbrev pub R4-flush : Type 0
+R4-flush =
+    Differs R4 (r4By drainedSince) twice (enabled (load 0x100020 ∷ store 4 0 ∷ clean 0 ∷ drain ∷ load 0x100020 ∷ []))
+    (Value 0) (fault TranslationSection 0 0x100020)
+
+-- ---- R5
+
+-- "after a table base write comes a whole TLB flush before the next translated access"
+abbrev pub R5-flush : Type 0
+R5-flush = Differs R5 nothing twice (enabled (load 0x20 ∷ write 2 0x4000 ∷ load 0x20 ∷ [])) (Value 0) (fault WalkFirst 0 0x20)
+
+-- ---- R6
+
+-- "all are equal": level 1 word 1 is 1D, with its table at 0; there page 1 is a large page at 0, by that same word, and page 0 is none
+abbrev pub R6-equal : Type 0
+R6-equal =
+    Differs R6 positions.r6-inside (twoWords 0 0x1D) (enabled (load 0x101020 ∷ load 0x100020 ∷ [])) (Value 0) (fault TranslationPage 0 0x100020)
+
+-- "lies in memory": 20 bytes, eight words 21D; level 1 word 1 has its table at 0, with a large page at 0 in words 0 to 7, and words 8 to F outside
+abbrev pub eightWords : List ℕ
+eightWords = fromWords (replicate 8 0x21D)
+
+abbrev pub R6-inside : Type 0
+R6-inside =
+    Differs R6 equalInMemory eightWords (enabled (load 0x100000 ∷ load 0x108000 ∷ [])) (fault FillPage 0 0x108000) (fault WalkSecond 0 0x108000)
+
+-- ---- the end: "after cleaning and draining so is memory, byte for byte"
+
+-- "cleaning"
+abbrev pub End-clean : Type 0
+End-clean = DiffersAtEnd (followed anything drains) twice (enabled (load 0x20 ∷ store 0x20 7 ∷ drain ∷ [])) 0x20 0 7
+
+-- "under the virtual line its last store before that clean went through": at the end
+abbrev pub End-through : Type 0
+End-through = DiffersAtEnd (followed anyClean drains) twice (enabled (load 0x20 ∷ store 0x20 7 ∷ clean 0x100020 ∷ drain ∷ [])) 0x20 0 7
+
+-- "draining"
+abbrev pub End-drain : Type 0
+End-drain = DiffersAtEnd cleanedSince twice (enabled (store 0x20 7 ∷ clean 0x20 ∷ [])) 0x20 0 7
+
+-- ---- the table
+
+pub record Needed : Type 0 where
+  pub r2-physical : R2-physical
+  pub r2-flat : R2-flat
+  pub r2-outside : R2-outside
+  pub r3-whole : R3-whole
+  pub r3-line : R3-line
+  pub r3-through : R3-through
+  pub r4-clean : R4-clean
+  pub r4-through : R4-through
+  pub r4-drain : R4-drain
+  pub r4-flush : R4-flush
+  pub r5-flush : R5-flush
+  pub r6-equal : R6-equal
+  pub r6-inside : R6-inside
+  pub end-clean : End-clean
+  pub end-through : End-through
+  pub end-drain : End-drain
