@@ -6,5 +6,5 @@ use Rattle.terms.specs.Positions as positions
 unfoldable pub computingPositions : Unit {0}
 unfolding secondReads wordsRead positions.each positions.some positions.served positions.reaches positions.virtualAt positions.addressAt
     positions.stores positions.translates positions.readsWord positions.through positions.cleans positions.covers positions.r2-physical
-    positions.r2-virtual positions.r3 positions.r4By positions.r5 positions.ofGroup positions.keepsRules positions.settledBy positions.settled
+    positions.r2-virtual positions.r3By positions.r4By positions.r5 positions.ofGroup positions.keepsRules positions.settledBy positions.allSettledBy
 computingPositions = tt

@@ -5,7 +5,7 @@ use mathlib.Core.Path.{_≡_, refl}
 use mathlib.Core.List.{List}
 use lib.ListN.{length}
 use Rattle.values.specs.declared.Call.{Call}
-use Rattle.terms.specs.Positions.{each, r2-physical, r2-virtual, r3, r4, r5, r6-inside, r6-equal, throughout, keepsRules, settled}
+use Rattle.terms.specs.Positions.{each, r2-physical, r2-virtual, r3, r4, r5, r6-inside, r6-equal, throughout, keepsRules}
 use Rattle.needed.specs.Needed.{Rule, R2, R3, R4, R5, R6, keepsBut, test, Whole}
 
 and-swap : (a b c d : Bool) → ((a && b) && (c && d)) ≡ ((a && c) && (b && d))
@@ -42,6 +42,5 @@ module _ (memory : List ℕ) (list : List Call) where
   rules R5 = halves
   rules R6 = halves
 
-  pub whole : Whole memory list
-  unfolding r3 settled
-  whole = record { rules = rules; r3 = λ j. refl; settled = refl }
+pub whole : Whole
+whole = rules

@@ -17,8 +17,8 @@ use Rattle.machine.specs.Machine.{memoryOf}
 use Rattle.step.specs.Start.{started}
 use Rattle.step.specs.Run.{answers}
 use Rattle.plain.specs.Plain.{plainStart, plainPhysical, plainAnswers}
-use Rattle.terms.specs.Positions.{each, some, given, before, writes, flushesDcache, drains, flushesTlb, addressAt, lineAt, stores, translates}
-use Rattle.terms.specs.Positions.{lastToLine, covers, cleanedSince, drainedSince, throughout, settledBy}
+use Rattle.terms.specs.Positions.{some, given, before, writes, flushesDcache, drains, flushesTlb, addressAt, translates}
+use Rattle.terms.specs.Positions.{cleanedSince, drainedSince, throughout}
 use Rattle.terms.specs.Positions as positions
 use Rattle.terms.specs.Term3.{RunUnder}
 use Rattle.terms.specs.Term3 as term3
@@ -96,11 +96,7 @@ noWholeFlush memory list j = not (flushesDcache memory list j)
 
 -- R3 with another test for "has been cleaned after its last store"
 abbrev pub r3By : Since → Test
-r3By since memory list j =
-    each j
-    (λ i.
-    let l = lineAt memory list i in
-    given (covers memory list l j && (lastToLine memory list i j && not (some i j (covers memory list l)))) (since memory list i j))
+r3By since memory list = positions.r3By memory list (since memory list)
 
 -- R4 with another test for "has, after its last store, had its line cleaned, then a drain, then a whole TLB flush"
 abbrev pub r4By : Since → Test
@@ -128,14 +124,11 @@ anyClean = followed anything (λ memory list. writes memory list cp15.cleansLine
 
 -- the end, "after cleaning and draining", with another test for what came after each line's last store
 abbrev pub settledBut : Since → List ℕ → List Call → Bool
-settledBut since memory list =
-    throughout memory list (λ i. given (stores memory list i) (settledBy memory list (since memory list) (lineAt memory list i)))
+settledBut since memory list = positions.allSettledBy memory list (since memory list)
 
--- Where all of a rule is left, and all of the end, these tests are term 3's.
-pub record Whole (memory : List ℕ) (list : List Call) : Type 0 where
-  pub rules : (rule : Rule) → keepsBut rule (test rule) memory list ≡ positions.keepsRules memory list
-  pub r3 : (j : ℕ) → r3By cleanedSince memory list j ≡ positions.r3 memory list j
-  pub settled : settledBut drainedSince memory list ≡ positions.settled memory list
+-- Where all of a rule is left, the five tests are term 3's.
+abbrev pub Whole : Type 0
+Whole = (memory : List ℕ) (list : List Call) (rule : Rule) → keepsBut rule (test rule) memory list ≡ positions.keepsRules memory list
 
 -- ---- a row
 
