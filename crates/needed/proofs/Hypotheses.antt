@@ -66,7 +66,7 @@ all-numbers [] e = tt
 all-numbers (c ∷ cs) e =
     (numbers c (and-left (carriesAll c) (all carriesAll cs) e), all-numbers cs (and-right (carriesAll c) (all carriesAll cs) e))
 
--- a run from a cache store of zeros, by four tests
+-- a run from a cache store of zeros: three tests, and the rules
 pub run-under : {rules : Type 0} {memory : List ℕ} {cs : List Call} → all isByte memory ≡ true → startRefusal memory zeroStore ≡ 0
     → all carriesAll cs ≡ true → rules → RunUnder rules memory zeroStore cs
 run-under {rules} {memory} {cs} b s n k =
