@@ -13,9 +13,11 @@ use Rattle.needed.specs.Needed.{
   R4-through,
   R4-drain,
   R4-flush,
+  R4-order,
   R5-flush,
   R6-equal,
   R6-inside,
+  R6-denied,
   End-clean,
   End-through,
   End-drain,
@@ -134,6 +136,17 @@ r4-flush =
       differ = answers-differ refl;
     }
 
+r4-order : R4-order
+unfolding computing computingPlainly computingPositions
+r4-order =
+    record {
+      run = run-under refl refl refl refl;
+      broken = refl;
+      library-last = refl;
+      plain-last = refl;
+      differ = answers-differ refl;
+    }
+
 r5-flush : R5-flush
 unfolding computing computingPlainly computingPositions
 r5-flush =
@@ -159,6 +172,17 @@ r6-equal =
 r6-inside : R6-inside
 unfolding computing computingPlainly computingPositions
 r6-inside =
+    record {
+      run = run-under refl refl refl refl;
+      broken = refl;
+      library-last = refl;
+      plain-last = refl;
+      differ = answers-differ refl;
+    }
+
+r6-denied : R6-denied
+unfolding computing computingPlainly computingPositions
+r6-denied =
     record {
       run = run-under refl refl refl refl;
       broken = refl;
@@ -219,9 +243,11 @@ needed =
       r4-through = r4-through;
       r4-drain = r4-drain;
       r4-flush = r4-flush;
+      r4-order = r4-order;
       r5-flush = r5-flush;
       r6-equal = r6-equal;
       r6-inside = r6-inside;
+      r6-denied = r6-denied;
       end-clean = end-clean;
       end-through = end-through;
       end-drain = end-drain;

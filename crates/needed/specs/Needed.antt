@@ -17,7 +17,7 @@ use Rattle.machine.specs.Machine.{memoryOf}
 use Rattle.step.specs.Start.{started}
 use Rattle.step.specs.Run.{answers}
 use Rattle.plain.specs.Plain.{plainStart, plainPhysical, plainAnswers}
-use Rattle.terms.specs.Positions.{some, given, before, writes, flushesDcache, drains, flushesTlb, addressAt, translates}
+use Rattle.terms.specs.Positions.{reaches, some, given, before, writes, flushesDcache, drains, flushesTlb, addressAt, translates}
 use Rattle.terms.specs.Positions.{cleanedSince, drainedSince, throughout}
 use Rattle.terms.specs.Positions as positions
 use Rattle.terms.specs.Term3.{RunUnder}
@@ -108,6 +108,10 @@ equalInMemory memory list =
     positions.ofGroup memory list
     (λ p a two. aborts (plainPhysical p) (record { 0 = a }) || eqb (valueAt 4 (p .memory) a) (valueAt 4 (p .memory) two))
 
+-- R6 for accesses whose rights pass alone
+abbrev pub r6-reaching : Test
+r6-reaching memory list j = given (reaches memory list j) (r6 memory list j)
+
 -- ---- what came after a store at i and before call j
 
 -- "then": what came first, and after it a call that meets the test
@@ -121,6 +125,10 @@ anything memory list i j = true
 -- a clean of any virtual line
 abbrev pub anyClean : Since
 anyClean = followed anything (λ memory list. writes memory list cp15.cleansLine)
+
+-- the line cleaned, a drain and a whole TLB flush, in any order
+abbrev pub inAnyOrder : Since
+inAnyOrder memory list i j = cleanedSince memory list i j && (some i j (drains memory list) && some i j (flushesTlb memory list))
 
 -- the end, "after cleaning and draining", with another test for what came after each line's last store
 abbrev pub settledBut : Since → List ℕ → List Call → Bool
@@ -227,6 +235,12 @@ R4-flush =
     Differs R4 (r4By drainedSince) twice (enabled (load 0x100020 ∷ store 4 0 ∷ clean 0 ∷ drain ∷ load 0x100020 ∷ []))
     (Value 0) (fault TranslationSection 0 0x100020)
 
+-- the order: all three, in any order
+abbrev pub R4-order : Type 0
+R4-order =
+    Differs R4 (r4By inAnyOrder) twice (enabled (load 0 ∷ store 8 0xC0E ∷ drain ∷ clean 0 ∷ flushTlb ∷ load 0x200020 ∷ []))
+    (fault TranslationSection 0 0x200020) (Value 0)
+
 -- ---- R5
 
 -- "after a table base write comes a whole TLB flush before the next translated access"
@@ -247,6 +261,16 @@ eightWords = fromWords (replicate 8 0x21D)
 abbrev pub R6-inside : Type 0
 R6-inside =
     Differs R6 equalInMemory eightWords (enabled (load 0x100000 ∷ load 0x108000 ∷ [])) (fault FillPage 0 0x108000) (fault WalkSecond 0 0x108000)
+
+-- "at each access for which the plain walk finds a large page", also one that its rights deny: level 1 word 1 has its table at 400, where page 0 is a
+-- large page at 0 with AP0 00, and the others are none
+abbrev pub deniedPage : List ℕ
+deniedPage = fromWords (0 ∷ 0x401 ∷ replicate 0xFE 0 ++ (0xFCD ∷ replicate 15 0))
+
+abbrev pub R6-denied : Type 0
+R6-denied =
+    Differs R6 r6-reaching deniedPage (enabled (load 0x100800 ∷ load 0x104000 ∷ [])) (fault FillPage 0 0x104000)
+    (fault TranslationPage 0 0x104000)
 
 -- ---- the end: "after cleaning and draining so is memory, byte for byte"
 
@@ -275,9 +299,11 @@ pub record Needed : Type 0 where
   pub r4-through : R4-through
   pub r4-drain : R4-drain
   pub r4-flush : R4-flush
+  pub r4-order : R4-order
   pub r5-flush : R5-flush
   pub r6-equal : R6-equal
   pub r6-inside : R6-inside
+  pub r6-denied : R6-denied
   pub end-clean : End-clean
   pub end-through : End-through
   pub end-drain : End-drain

@@ -38,3 +38,4 @@ pub mod CleanedAt
 pub mod GroupAt
 pub mod Positions
 pub mod Corollaries
+pub mod Contracts

@@ -26,21 +26,31 @@ use Rattle.sa110.specs.declared.Started.{Started}
 
 -- ---- the contracts
 
--- `sa110::start`, which is lent memory and store to read alone, returned `r`
+-- of `sa110::start`, which is lent memory and store to read alone: it returned `r`
+abbrev pub Starts : List ℕ → List ℕ → Started → Type 0
+Starts memory store r = startedOf memory store r ≡ started memory store
+
+-- of `sa110::call` on a state, a record, memory and store: it returned `r`, and left the lent memory and store as `memory₁` and `store₁`
+abbrev pub Calls : List ℕ → List ℕ → State → Cp15 → Call → List ℕ → List ℕ → Called → Type 0
+Calls memory store s q c memory₁ store₁ r = calledOf memory₁ store₁ r ≡ served (machineIn memory store s q) c
+
+-- of `sa110::run` over a list of calls and a list for answers, which it left as `answers₁`
+abbrev pub Runs : List ℕ → List ℕ → State → Cp15 → List ℕ → List ℕ → List ℕ → List ℕ → List ℕ → Ran → Type 0
+Runs memory store s q list answers memory₁ store₁ answers₁ r = ranOf memory₁ store₁ answers₁ r ≡ run (machineIn memory store s q) list answers
+
+-- with the lengths of the write buffer's arrays, as their types say
 pub record CodeStart (memory store : List ℕ) (r : Started) : Type 0 where
   pub places : EightPlaces (r .state)
-  pub starts : startedOf memory store r ≡ started memory store
+  pub starts : Starts memory store r
 
--- `sa110::call` on a state `s`, a record `q`, memory and store returned `r`, and left the lent memory and store as `memory₁` and `store₁`
 pub record CodeCall (memory store : List ℕ) (s : State) (q : Cp15) (c : Call) (memory₁ store₁ : List ℕ) (r : Called) : Type 0 where
   pub places : EightPlaces s
   pub places-after : EightPlaces (r .state)
-  pub calls : calledOf memory₁ store₁ r ≡ served (machineIn memory store s q) c
+  pub calls : Calls memory store s q c memory₁ store₁ r
 
--- `sa110::run` over a list returned `r`, and left the list of answers too
 pub record CodeRuns (memory store : List ℕ) (s : State) (q : Cp15) (list answers memory₁ store₁ answers₁ : List ℕ) (r : Ran) : Type 0 where
   pub places-after : EightPlaces (r .state)
-  pub runs : ranOf memory₁ store₁ answers₁ r ≡ run (machineIn memory store s q) list answers
+  pub runs : Runs memory store s q list answers memory₁ store₁ answers₁ r
 
 -- ---- term 1: "refused by that number and changes nothing"
 

@@ -16,7 +16,6 @@ use Rattle.step.specs.Meets.{startRefusal}
 use Rattle.step.specs.Start.{started}
 use Rattle.step.specs.Call.{Is32}
 use Rattle.step.specs.Run.{answers, final, run}
-use Rattle.sa110.specs.State.{machineIn, ranOf, startedOf}
 use Rattle.sa110.specs.declared.Started.{Started}
 use Rattle.sa110.specs.declared.Ran as library
 use Rattle.plain.specs.Plain.{plainStart, plainFinal}
@@ -26,6 +25,7 @@ use Rattle.plain.specs.declared.Ran as plain
 use Rattle.terms.specs.History.{History, noHistory, historyAfter}
 use Rattle.terms.specs.Rules.{isStored, Keeps, Settled}
 use Rattle.terms.specs.Term3.{Run}
+use Rattle.terms.specs.Callers.{Starts, Runs}
 use Rattle.machine.specs.Machine.{memoryOf}
 
 -- ---- 1. A run over lent lists
@@ -64,8 +64,8 @@ LentRuns = (memory store list answers : List ℕ) → LentRun memory store list 
 -- The code, by its contracts: `sa110::start` gave `s` on memory and store; `sa110::run` on what it gave returned `r`, and left the lent memory,
 -- store and list of answers as `memory₁`, `store₁` and `answers₁`.
 pub record CodeRun (memory store list answers : List ℕ) (s : Started) (memory₁ store₁ answers₁ : List ℕ) (r : library.Ran) : Type 0 where
-  pub starts : startedOf memory store s ≡ started memory store
-  pub runs : ranOf memory₁ store₁ answers₁ r ≡ run (machineIn memory store (s .state) (s .cp15)) list answers
+  pub starts : Starts memory store s
+  pub runs : Runs memory store (s .state) (s .cp15) list answers memory₁ store₁ answers₁ r
 
 -- `plain::run` returned `p`, and left the lent memory and list of answers as `memory₁` and `answers₁`
 abbrev pub PlainCodeRun : List ℕ → List ℕ → List ℕ → List ℕ → List ℕ → plain.Ran → Type 0

@@ -19,7 +19,7 @@ use Rattle.sa110.proofs.Held.{held-same}
 use Rattle.lent.specs.Coded.{Coded, calledBy, codedOf}
 use Rattle.terms.specs.Corollaries.{callsMade}
 use Rattle.terms.proofs.Answers.{call-by-refusal, start-by-refusal}
-use Rattle.uses.specs.Uses.{Lent, machine, Use, one, many, Meets, Chain, callsOf, codesOf, lastOf}
+use Rattle.uses.specs.Uses.{Lent, machine, Starts, Use, one, many, Meets, Chain, callsOf, codesOf, lastOf}
 use Rattle.uses.specs.Header.{SameLent, Eight, HeaderStart, HeaderCall, HeaderRun, Header}
 use Rattle.uses.proofs.Uses.{chain-is}
 
@@ -29,8 +29,7 @@ lent-same k l f g e = held-same (k .memory) (k .store) (k .state) (k .cp15) (l .
 
 -- ---- the start
 
-module _ (l : Lent) (n : ℕ) (eight : Eight l)
-    (e : startedOf (l .memory) (l .store) (record { state = l .state; cp15 = l .cp15; refusal = n }) ≡ starts.started (l .memory) (l .store)) where
+module _ (l : Lent) (n : ℕ) (eight : Eight l) (e : Starts l n) where
   -- a start that leaves a fresh machine of this size
   fresh-left : (size refusal : ℕ) → starts.started (l .memory) (l .store) ≡ starts.startedFrom (fresh size (l .memory) (l .store)) refusal
       → (l .state ≡ zeroState size) × (l .cp15 ≡ zeroCp15) × (n ≡ refusal)

@@ -1,3 +1,4 @@
 pub mod Uses
 pub mod Header
 pub mod EndsAlike
+pub mod Contracts

@@ -14,7 +14,7 @@ use Rattle.step.specs.Start.{started}
 use Rattle.sa110.specs.State.{startedOf}
 use Rattle.sa110.specs.Held.{EightPlaces, SameHeld, zeroState}
 use Rattle.terms.specs.Corollaries.{callsMade}
-use Rattle.uses.specs.Uses.{Lent, machine, Use, one, many, Meets, Chain, callsOf, codesOf, lastOf}
+use Rattle.uses.specs.Uses.{Lent, machine, Starts, Use, one, many, Meets, Chain, callsOf, codesOf, lastOf}
 
 -- two callers hold and lend the same, to the word and the byte
 abbrev pub SameLent : Lent → Lent → Type 0
@@ -43,9 +43,7 @@ pub record HeaderRun (us : List Use) (answers answers₁ : List ℕ) (made : ℕ
   pub same-made : made ≡ length (callsOf us)
 
 pub record Header : Type 0 where
-  pub start : (l : Lent) (n : ℕ) → Eight l
-      → startedOf (l .memory) (l .store) (record { state = l .state; cp15 = l .cp15; refusal = n }) ≡ started (l .memory) (l .store)
-      → HeaderStart l n
+  pub start : (l : Lent) (n : ℕ) → Eight l → Starts l n → HeaderStart l n
   pub call : (l : Lent) (kind privileged n a v code : ℕ) (k : Lent) → Eight l → Eight k → Meets l (one kind privileged n a v code k)
       → HeaderCall l kind privileged n a v code k
   pub run : (l : Lent) (list answers answers₁ : List ℕ) (made : ℕ) (k : Lent) → Eight k → Meets l (many list answers answers₁ made k)

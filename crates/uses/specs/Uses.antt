@@ -35,6 +35,10 @@ pub record Lent : Type 0 where
 abbrev pub machine : Lent → Machine
 machine l = machineIn (l .memory) (l .store) (l .state) (l .cp15)
 
+-- the contract of `sa110_start`: on memory and store it gave n, and the caller holds what it wrote
+abbrev pub Starts : Lent → ℕ → Type 0
+Starts l n = startedOf (l .memory) (l .store) (record { state = l .state; cp15 = l .cp15; refusal = n }) ≡ started (l .memory) (l .store)
+
 -- ---- a use
 
 -- `sa110_call` with five numbers: the code that it answers, and what the caller holds after it. `sa110_run` with a list of calls and a list for
@@ -93,7 +97,7 @@ lastOf l (u ∷ us) = lastOf (left u) us
 pub record Used (l : Lent) (us : List Use) : Type 0 where
   pub memory-bytes : Bytes (l .memory)
   pub store-bytes : Bytes (l .store)
-  pub starts : startedOf (l .memory) (l .store) (record { state = l .state; cp15 = l .cp15; refusal = 0 }) ≡ started (l .memory) (l .store)
+  pub starts : Starts l 0
   pub chain : Chain l us
   pub keeps : keepsRules (l .memory) (callsOf us) ≡ true
 
@@ -111,10 +115,14 @@ pub record SameUses (l : Lent) (us : List Use) : Type 0 where
 abbrev pub UsesAgree : Type 0
 UsesAgree = (l : Lent) (us : List Use) → Used l us → SameUses l us
 
--- `sa110_plain_run` on the start's memory, over a list of the same calls, answered `p`, and left memory and answers as `memory₂` and `answers₂`
+-- the contract of `sa110_plain_run`: on memory, a list of calls and a list for answers it answered p, and left memory and answers as these
+abbrev pub PlainRuns : List ℕ → List ℕ → List ℕ → List ℕ → List ℕ → PlainRan → Type 0
+PlainRuns memory list answers memory₂ answers₂ p = plainRanOf memory₂ answers₂ p ≡ plainRun memory list answers
+
+-- it ran on the start's memory, over a list of the same calls
 pub record PlainUse (l : Lent) (us : List Use) (list answers memory₂ answers₂ : List ℕ) (p : PlainRan) : Type 0 where
   pub same-list : callsMade list answers ≡ callsOf us
-  pub runs : plainRanOf memory₂ answers₂ p ≡ plainRun (l .memory) list answers
+  pub runs : PlainRuns (l .memory) list answers memory₂ answers₂ p
 
 -- what it answers and leaves is what the uses answer and leave
 pub record SameExports (l : Lent) (us : List Use) (memory₂ answers₂ : List ℕ) (p : PlainRan) : Type 0 where
