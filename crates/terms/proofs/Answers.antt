@@ -146,7 +146,8 @@ done-fault m c =
     (λ t s d va f e.
     let g : Fault = record { status = s; domain = d; address = va } in
     let q : g ≡ f = cc in
-    subst (λ (y : Fault). FaultKeeps m y (faulted (committed m t) s d va .machine)) q (record { sets-fsr = refl; sets-far = refl; side = refl; size = refl; control = refl; base = refl; domains = refl }))
+    subst (λ (y : Fault). FaultKeeps m y (faulted (committed m t) s d va .machine)) q
+    (record { sets-fsr = refl; sets-far = refl; side = refl; size = refl; control = refl; base = refl; domains = refl }))
     c
 
 -- ---- a call and a start, by their refusal

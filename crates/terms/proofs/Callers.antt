@@ -75,7 +75,8 @@ unfolding firstMet
 row-first rows n f = by rows (f .row) (f .is-met) (f .none-before) ∙ f .gives-it
   where
     by : (rows : List (Row ℕ)) (i : ℕ) → getD rows i (record { met = false; gives = 0 }) .met ≡ true
-        → ((k : ℕ) → k < i → getD rows k (record { met = false; gives = 0 }) .met ≡ false) → refusalIn rows ≡ getD rows i (record { met = false; gives = 0 }) .gives
+        → ((k : ℕ) → k < i → getD rows k (record { met = false; gives = 0 }) .met ≡ false)
+        → refusalIn rows ≡ getD rows i (record { met = false; gives = 0 }) .gives
     by [] i e f = clash {b = false} e refl
     by (r ∷ rs) zero e f = rw e
     by (r ∷ rs) (suc i) e f = rw (f 0 (omega arith)) (by rs i e (λ k h. f (suc k) (omega arith)))

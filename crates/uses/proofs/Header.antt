@@ -12,7 +12,6 @@ use Rattle.machine.specs.Machine.{Machine, fresh}
 use Rattle.step.specs.Meets.{startRefusal}
 use Rattle.step.specs.Start as starts
 use Rattle.step.specs.Run.{answers, final, run}
-use Rattle.sa110.specs.State.{startedOf}
 use Rattle.sa110.specs.Held.{EightPlaces, zeroState}
 use Rattle.sa110.proofs.Starts.{fresh-is}
 use Rattle.sa110.proofs.Held.{held-same}

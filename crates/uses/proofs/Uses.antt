@@ -29,8 +29,8 @@ use Rattle.terms.specs.Corollaries.{callsMade}
 use Rattle.terms.proofs.Appends.{numbers-append}
 use Rattle.terms.proofs.Corollaries.{calls-numbers, length-fits}
 use Rattle.terms.proofs.Positions.{term3-printed}
-use Rattle.uses.specs.Uses.{Lent, machine, Use, one, many, left, Meets, Fits32, callsIn, codesIn, Chain, callsOf, codesOf, lastOf, Used, SameUses, UsesAgree}
-use Rattle.uses.specs.Uses.{PlainUse, SameExports, ExportsAgree}
+use Rattle.uses.specs.Uses.{Lent, machine, Use, one, many, left, Meets, Fits32, callsIn, codesIn, Chain, callsOf, codesOf, lastOf}
+use Rattle.uses.specs.Uses.{Used, SameUses, UsesAgree, PlainUse, SameExports, ExportsAgree}
 
 -- ---- lists of calls, one after the other
 
@@ -65,7 +65,8 @@ use-is l (many list answers answers₁ made k) e =
     let made-is = ap (λ (x : Left Machine). x .made) e in
     let answers-are = ap (λ (x : Left Machine). x .answers) e in (
       ap (λ (x : Left Machine). x .machine) e,
-      ap (λ (n : ℕ). take n answers₁) made-is ∙ ap (λ (x : List ℕ). take (length cs) x) answers-are ∙ front next answered (machine l) cs (drop (length cs) answers),
+      ap (λ (n : ℕ). take n answers₁) made-is ∙ ap (λ (x : List ℕ). take (length cs) x) answers-are
+          ∙ front next answered (machine l) cs (drop (length cs) answers),
     )
 
 use-numbers : (u : Use) → Fits32 u → AllNumbers (callsIn u)

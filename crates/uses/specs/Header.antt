@@ -10,8 +10,6 @@ use Rattle.values.specs.declared.Answer.the-variants as answer
 use Rattle.trace.specs.Calls.{isCall, callOf}
 use Rattle.trace.specs.Codes.{codeOf, noCall}
 use Rattle.step.specs.Meets.{startRefusal, refusal}
-use Rattle.step.specs.Start.{started}
-use Rattle.sa110.specs.State.{startedOf}
 use Rattle.sa110.specs.Held.{EightPlaces, SameHeld, zeroState}
 use Rattle.terms.specs.Corollaries.{callsMade}
 use Rattle.uses.specs.Uses.{Lent, machine, Starts, Use, one, many, Meets, Chain, callsOf, codesOf, lastOf}

@@ -43,7 +43,8 @@ returns c =
     let start = memory-known .before in
     let a = start .args in
     ends-alike (now (a .memory)) (now (a .store)) (now (a .other)) (now (a .calls)) (now (a .answers)) (now (a .others))
-    (λ i h. memory-known .slice-known .given i .fits) (λ i h. store-known .slice-known2 .given i .fits) (λ i h. calls-known .shared-slice-known .given i .fits) _ _ _ (after-run .run-from-start .result) (after-run .run-from-start .ensures)
+    (λ i h. memory-known .slice-known .given i .fits) (λ i h. store-known .slice-known2 .given i .fits)
+    (λ i h. calls-known .shared-slice-known .given i .fits) _ _ _ (after-run .run-from-start .result) (after-run .run-from-start .ensures)
     _ _ (after-plain .run .result) (after-plain .run .ensures)
 
 pub both-spec : {M : Type 1} → statement M
