@@ -283,8 +283,8 @@ uint32_t sa110_sound(const struct sa110_state *state, const struct sa110_cp15 *c
 
 /* Makes a list of calls, in the form of sa110_run, on the plain machine: memory and the five registers, all zero at the start, without TLB,
  * Dcache and write buffer. Stores are in memory at once; writes of registers 7 and 8 do nothing. For a list that keeps document 01's rules R1 to
- * R6 the answers are those of sa110_run from a start, and after a served clean of each line stored to and a served drain so is memory, byte for byte: this
- * is proved (term 3). Whether a list keeps the rules, compare's program counts tells, by the second model, which is tested and not proved. A memory
+ * R6 the answers are those of sa110_run after a served start on the same bytes, and once each line stored to was cleaned after its last store, with a
+ * drain after that, so is memory, byte for byte: this is proved (term 3). Whether a list keeps the rules, compare's program counts tells, by the second model, which is tested and not proved. A memory
  * whose length does not fit gives refusal 1, with no call made. */
 struct sa110_plain_ran sa110_plain_run(uint8_t *memory, size_t memory_length, const uint32_t *calls, size_t calls_length, uint64_t *answers,
                                        size_t answers_length);

@@ -1,5 +1,5 @@
--- M1 to M12 of the plain machine: the cases of MarkedCases, of its answers. M5, and the addresses of M6 and M8, are of definitions that the two
--- machines share.
+-- M1 to M12 of the plain machine, M5 left out: the cases of MarkedCases, of its answers. M5 is of the Dcache, which the plain machine has not; the
+-- addresses of M6 and M8 are of definitions that the two machines share.
 use Rattle.marked.specs.MarkedCases.{Run, RunWith, registers}
 use Rattle.marked.specs.MarkedCases.{M1, M2, M3, M4-set, M4-clear, M6, M7, M8, M9, M9-domain, M10, M11, M12}
 use Rattle.plain.specs.Plain.{plainStart, withRegisters, plainAnswers}

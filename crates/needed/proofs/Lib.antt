@@ -3,4 +3,5 @@ pub mod Hypotheses
 pub mod Whole
 pub mod Rows
 pub mod Witness
+pub mod Asked
 pub mod Needed

@@ -1,4 +1,4 @@
--- Each rule is needed: each row by computation, and the table of them.
+-- Each of R2 to R6 is needed, and what the end asks: each row by computation, and the table of them.
 use mathlib.Core.Path.{refl}
 use Rattle.marked.proofs.Computing.{computing, computingPlainly}
 use Rattle.needed.specs.Needed.{
@@ -21,6 +21,7 @@ use Rattle.needed.specs.Needed.{
   End-clean,
   End-through,
   End-drain,
+  End-order,
 }
 use Rattle.needed.proofs.Computing.{computingPositions}
 use Rattle.needed.proofs.Hypotheses.{run-under}
@@ -230,6 +231,19 @@ end-drain =
       differ = bytes-differ refl;
     }
 
+end-order : End-order
+unfolding computing computingPlainly computingPositions
+end-order =
+    record {
+      run = run-under refl refl refl refl;
+      settled-but = refl;
+      broken = refl;
+      same-answers = refl;
+      library-has = refl;
+      plain-has = refl;
+      differ = bytes-differ refl;
+    }
+
 pub needed : Needed
 needed =
     record {
@@ -251,4 +265,5 @@ needed =
       end-clean = end-clean;
       end-through = end-through;
       end-drain = end-drain;
+      end-order = end-order;
     }

@@ -53,7 +53,8 @@ abbrev pub fromWords : List ℕ → List ℕ
 fromWords [] = []
 fromWords (w ∷ ws) = marked.word 0 0 w (fromWords ws)
 
--- 40 bytes: level 1 words 0 and 1, and zeros. C0E maps its megabyte to the section at 0, with C and B set, AP 11 and domain 0.
+-- 40 bytes: level 1 words 0 and 1, and zeros; the table base is 0, as the start left it. C0E maps its megabyte to the section at 0, with C and B set,
+-- AP 11 and domain 0.
 abbrev pub twoWords : ℕ → ℕ → List ℕ
 twoWords w₀ w₁ = fromWords (w₀ ∷ w₁ ∷ replicate 14 0)
 

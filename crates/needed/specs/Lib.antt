@@ -1,3 +1,4 @@
 pub mod Calls
 pub mod Witness
+pub mod Asked
 pub mod Needed

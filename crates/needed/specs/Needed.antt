@@ -1,5 +1,5 @@
--- Each rule is needed. For each part of a rule, and of the end, a short list of calls keeps all the rest, and the library answers it otherwise than
--- the plain machine, or is left with another memory.
+-- Each of R2 to R6 is needed, and so is what the end asks. For each of nineteen parts of them a short list of calls keeps all the rest, and the library
+-- answers it otherwise than the plain machine, or is left with another memory.
 use Prim.Native.Nat.{ℕ}
 use mathlib.Core.Bool.{Bool, true, false, not, _&&_, _||_}
 use mathlib.Core.List.{List, [], _∷_, _++_}
@@ -87,7 +87,8 @@ r2-inside memory list j =
 abbrev pub nothing : Test
 nothing memory list j = true
 
--- R3 is left for line flushes alone, and the list has none; for whole flushes alone, and it has none
+-- R3 is left for line flushes alone, of which the list has none; for whole flushes alone, of which it has none. To ask that there are none is more than
+-- to ask R3 of them
 abbrev pub noLineFlush : Test
 noLineFlush memory list j = not (writes memory list cp15.flushesLine j)
 
@@ -126,9 +127,12 @@ anything memory list i j = true
 abbrev pub anyClean : Since
 anyClean = followed anything (λ memory list. writes memory list cp15.cleansLine)
 
--- the line cleaned, a drain and a whole TLB flush, in any order
+-- the line cleaned and a drain, in any order; and a whole TLB flush, in any order
+abbrev pub cleanedAndDrained : Since
+cleanedAndDrained memory list i j = cleanedSince memory list i j && some i j (drains memory list)
+
 abbrev pub inAnyOrder : Since
-inAnyOrder memory list i j = cleanedSince memory list i j && (some i j (drains memory list) && some i j (flushesTlb memory list))
+inAnyOrder memory list i j = cleanedAndDrained memory list i j && some i j (flushesTlb memory list)
 
 -- the end, "after cleaning and draining", with another test for what came after each line's last store
 abbrev pub settledBut : Since → List ℕ → List Call → Bool
@@ -188,7 +192,7 @@ pages = fromWords (1 ∷ 0xFFE ∷ replicate 6 0 ++ (9 ∷ replicate 0x407 0))
 abbrev pub R2-flat : Type 0
 R2-flat = Differs R2 r2-translated pages (enabled (load 0x1020 ∷ write 1 0 ∷ load 0x1020 ∷ [])) (Value 9) (Value 0)
 
--- "every data access whose translation and rights pass reaches a line, even one outside memory"
+-- "every data access whose translation and rights pass reaches a line, even one outside memory": in the second half
 abbrev pub R2-outside : Type 0
 R2-outside = Differs R2 r2-inside twice (enabled (load 0x100000 ∷ write 1 0 ∷ load 0x100000 ∷ [])) (Value 0xC0E) (fault OtherSection 0 0x100000)
 
@@ -235,7 +239,7 @@ R4-flush =
     Differs R4 (r4By drainedSince) twice (enabled (load 0x100020 ∷ store 4 0 ∷ clean 0 ∷ drain ∷ load 0x100020 ∷ []))
     (Value 0) (fault TranslationSection 0 0x100020)
 
--- the order: all three, in any order
+-- the order: a drain before the clean does not do
 abbrev pub R4-order : Type 0
 R4-order =
     Differs R4 (r4By inAnyOrder) twice (enabled (load 0 ∷ store 8 0xC0E ∷ drain ∷ clean 0 ∷ flushTlb ∷ load 0x200020 ∷ []))
@@ -249,7 +253,8 @@ R5-flush = Differs R5 nothing twice (enabled (load 0x20 ∷ write 2 0x4000 ∷ l
 
 -- ---- R6
 
--- "all are equal": level 1 word 1 is 1D, with its table at 0; there page 1 is a large page at 0, by that same word, and page 0 is none
+-- "all are equal": level 1 word 1 is 1D, with its table at 0; there page 1 is a large page at 0, by that same word, and page 0 is none. The first load
+-- goes to 1020, outside memory: both machines fault, and the library's TLB has the large page
 abbrev pub R6-equal : Type 0
 R6-equal =
     Differs R6 positions.r6-inside (twoWords 0 0x1D) (enabled (load 0x101020 ∷ load 0x100020 ∷ [])) (Value 0) (fault TranslationPage 0 0x100020)
@@ -286,6 +291,10 @@ End-through = DiffersAtEnd (followed anyClean drains) twice (enabled (load 0x20 
 abbrev pub End-drain : Type 0
 End-drain = DiffersAtEnd cleanedSince twice (enabled (store 0x20 7 ∷ clean 0x20 ∷ [])) 0x20 0 7
 
+-- the order: a drain before the clean does not do
+abbrev pub End-order : Type 0
+End-order = DiffersAtEnd cleanedAndDrained twice (enabled (load 0x20 ∷ store 0x20 7 ∷ drain ∷ clean 0x20 ∷ [])) 0x20 0 7
+
 -- ---- the table
 
 pub record Needed : Type 0 where
@@ -307,3 +316,4 @@ pub record Needed : Type 0 where
   pub end-clean : End-clean
   pub end-through : End-through
   pub end-drain : End-drain
+  pub end-order : End-order

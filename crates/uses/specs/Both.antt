@@ -1,4 +1,5 @@
--- One list of calls on the library, from a start, and on the plain machine: term 3 as the contract of a function that makes both runs.
+-- One list of calls on the library, from a start, and on the plain machine: term 3's answers and settled memory, as the contract of a function that makes
+-- both runs.
 use Prim.Native.Nat.{ℕ}
 use mathlib.Core.Bool.{Bool, true}
 use mathlib.Core.Path.{_≡_}
