@@ -27,7 +27,7 @@ use Rattle.sa110.specs.Held.{EightPlaces, zeroState}
 use Rattle.sa110.proofs.Starts.{fresh-is}
 use Rattle.sa110.proofs.Held.{side-same, held-same}
 use Rattle.terms.specs.Term1.{ValueOrFault}
-use Rattle.terms.specs.Callers.{RefusedCallWords, RefusedStartZeros, FirstRow, CallTable, StartTable, SameCalls, SameRuns, FaultLeaves, CodeTerm1}
+use Rattle.terms.specs.Callers.{RefusedCallWords, RefusedStartZeros, noRow, FirstRow, CallTable, StartTable, SameCalls, SameRuns, FaultLeaves, CodeTerm1}
 use Rattle.terms.proofs.Answers.{call-by-refusal, start-by-refusal, served-fault}
 
 -- ---- a refused call and a refused start
@@ -66,7 +66,7 @@ first-row (r ∷ rs) n z e =
     later : r .met ≡ false → FirstRow rs n → FirstRow (r ∷ rs) n
     later t f = record { row = suc (f .row); is-met = f .is-met; gives-it = f .gives-it; none-before = before }
       where
-        before : (i : ℕ) → i < suc (f .row) → getD (r ∷ rs) i (record { met = false; gives = 0 }) .met ≡ false
+        before : (i : ℕ) → i < suc (f .row) → getD (r ∷ rs) i noRow .met ≡ false
         before zero h = t
         before (suc i) h = f .none-before i (omega arith)
 
@@ -74,9 +74,9 @@ row-first : (rows : List (Row ℕ)) (n : ℕ) → FirstRow rows n → refusalIn 
 unfolding firstMet
 row-first rows n f = by rows (f .row) (f .is-met) (f .none-before) ∙ f .gives-it
   where
-    by : (rows : List (Row ℕ)) (i : ℕ) → getD rows i (record { met = false; gives = 0 }) .met ≡ true
-        → ((k : ℕ) → k < i → getD rows k (record { met = false; gives = 0 }) .met ≡ false)
-        → refusalIn rows ≡ getD rows i (record { met = false; gives = 0 }) .gives
+    by : (rows : List (Row ℕ)) (i : ℕ) → getD rows i noRow .met ≡ true
+        → ((k : ℕ) → k < i → getD rows k noRow .met ≡ false)
+        → refusalIn rows ≡ getD rows i noRow .gives
     by [] i e f = clash {b = false} e refl
     by (r ∷ rs) zero e f = rw e
     by (r ∷ rs) (suc i) e f = rw (f 0 (omega arith)) (by rs i e (λ k h. f (suc k) (omega arith)))
@@ -86,8 +86,8 @@ above : (rows : List (Row ℕ)) → Numbered rows → (n : ℕ) → FirstRow row
 unfolding all
 above rows a n f z = by rows a (f .row) (f .is-met) (f .gives-it ∙ z)
   where
-    by : (rows : List (Row ℕ)) → Numbered rows → (i : ℕ) → getD rows i (record { met = false; gives = 0 }) .met ≡ true
-        → getD rows i (record { met = false; gives = 0 }) .gives ≡ 0 → ⊥
+    by : (rows : List (Row ℕ)) → Numbered rows → (i : ℕ) → getD rows i noRow .met ≡ true
+        → getD rows i noRow .gives ≡ 0 → ⊥
     by [] a i e z = clash {b = false} e refl
     by (r ∷ rs) a zero e z = let h = ltb-true 0 (r .gives) (and-left (ltb 0 (r .gives)) (all (λ (x : Row ℕ). ltb 0 (x .gives)) rs) a) in omega arith
     by (r ∷ rs) a (suc i) e z = by rs (and-right (ltb 0 (r .gives)) (all (λ (x : Row ℕ). ltb 0 (x .gives)) rs) a) i e z

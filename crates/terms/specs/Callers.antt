@@ -69,12 +69,16 @@ RefusedStartZeros =
 
 -- ---- term 1: the table of refusals, in checking order
 
+-- behind a table's end no row is met
+abbrev pub noRow : Row ℕ
+noRow = record { met = false; gives = 0 }
+
 -- a row that is met, the number that it gives, and no row before it met
 pub record FirstRow (rows : List (Row ℕ)) (n : ℕ) : Type 0 where
   pub row : ℕ
-  pub is-met : getD rows row (record { met = false; gives = 0 }) .met ≡ true
-  pub gives-it : getD rows row (record { met = false; gives = 0 }) .gives ≡ n
-  pub none-before : (i : ℕ) → i < row → getD rows i (record { met = false; gives = 0 }) .met ≡ false
+  pub is-met : getD rows row noRow .met ≡ true
+  pub gives-it : getD rows row noRow .gives ≡ n
+  pub none-before : (i : ℕ) → i < row → getD rows i noRow .met ≡ false
 
 -- a call is refused by n exactly where n is the number of the first row met, of those that the call meets
 abbrev pub CallTable : Type 0

@@ -29,7 +29,7 @@ use Rattle.terms.specs.Corollaries.{callsMade}
 use Rattle.terms.proofs.Appends.{numbers-append}
 use Rattle.terms.proofs.Corollaries.{calls-numbers, length-fits}
 use Rattle.terms.proofs.Positions.{term3-printed}
-use Rattle.uses.specs.Uses.{Lent, machine, Use, one, many, left, Meets, Fits32, callsIn, codesIn, Chain, callsOf, codesOf, lastOf}
+use Rattle.uses.specs.Uses.{Lent, machine, Use, one, many, left, Meets, Fits32, callsBy, codesBy, Chain, callsOf, codesOf, lastOf}
 use Rattle.uses.specs.Uses.{Used, SameUses, UsesAgree, PlainUse, SameExports, ExportsAgree}
 
 -- ---- lists of calls, one after the other
@@ -42,7 +42,7 @@ codes-append (x ∷ xs) ys = ap (λ (l : List ℕ). codeOf x ∷ l) (codes-appen
 
 -- the machine that a use leaves, and its codes, by its calls
 abbrev Is : Lent → Use → Type 0
-Is l u = (machine (left u) ≡ final (machine l) (callsIn u)) × (codesIn u ≡ map codeOf (answers (machine l) (callsIn u)))
+Is l u = (machine (left u) ≡ final (machine l) (callsBy u)) × (codesBy u ≡ map codeOf (answers (machine l) (callsBy u)))
 
 -- the codes at the front of a list of answers
 front : {S : Type 0} (next : S → Call → S) (answer : S → Call → Answer) (s : S) (cs : List Call) (rest : List ℕ)
@@ -69,7 +69,7 @@ use-is l (many list answers answers₁ made k) e =
           ∙ front next answered (machine l) cs (drop (length cs) answers),
     )
 
-use-numbers : (u : Use) → Fits32 u → AllNumbers (callsIn u)
+use-numbers : (u : Use) → Fits32 u → AllNumbers (callsBy u)
 unfolding AllNumbers
 use-numbers (one kind privileged n a v code k) f =
     case (isCall kind privileged) (λ t. rw t (numbers-of kind privileged n a v (f .0) (f .1), tt)) (λ t. rw t tt)
@@ -86,16 +86,16 @@ chain-is (u ∷ us) l c =
     let r = chain-is us (left u) (c .1) in
     let e = use-is l u (c .0 .0) in (
       ap (λ (x : List ℕ). x ++ codesOf us) (e .1)
-          ∙ ap (λ (x : List ℕ). map codeOf (answers m (callsIn u)) ++ x) (r .0 ∙ ap (λ (x : Machine). map codeOf (answers x (callsOf us))) (e .0))
-          ∙ sym (ap (map codeOf) (answers-append next answered m (callsIn u) (callsOf us))
-          ∙ codes-append (answers m (callsIn u)) (answers (final m (callsIn u)) (callsOf us))),
-      r .1 ∙ ap (λ (x : Machine). final x (callsOf us)) (e .0) ∙ sym (final-append next answered m (callsIn u) (callsOf us)),
+          ∙ ap (λ (x : List ℕ). map codeOf (answers m (callsBy u)) ++ x) (r .0 ∙ ap (λ (x : Machine). map codeOf (answers x (callsOf us))) (e .0))
+          ∙ sym (ap (map codeOf) (answers-append next answered m (callsBy u) (callsOf us))
+          ∙ codes-append (answers m (callsBy u)) (answers (final m (callsBy u)) (callsOf us))),
+      r .1 ∙ ap (λ (x : Machine). final x (callsOf us)) (e .0) ∙ sym (final-append next answered m (callsBy u) (callsOf us)),
     )
 
 chain-numbers : (us : List Use) (l : Lent) → Chain l us → AllNumbers (callsOf us)
 unfolding Chain callsOf AllNumbers
 chain-numbers [] l c = tt
-chain-numbers (u ∷ us) l c = numbers-append (callsOf us) (callsIn u) (use-numbers u (c .0 .1)) (chain-numbers us (left u) (c .1))
+chain-numbers (u ∷ us) l c = numbers-append (callsOf us) (callsBy u) (use-numbers u (c .0 .1)) (chain-numbers us (left u) (c .1))
 
 module _ (l : Lent) (us : List Use) (h : Used l us) where
   abbrev cs : List Call

@@ -64,14 +64,14 @@ Fits32 (one kind privileged n a v code k) = Is32 a × Is32 v
 Fits32 (many list answers answers₁ made k) = All32 list
 
 -- the calls that it makes: none for numbers that are no call
-abbrev pub callsIn : Use → List Call
-callsIn (one kind privileged n a v code k) = cond (isCall kind privileged) (callOf kind privileged n a v ∷ []) []
-callsIn (many list answers answers₁ made k) = callsMade list answers
+abbrev pub callsBy : Use → List Call
+callsBy (one kind privileged n a v code k) = cond (isCall kind privileged) (callOf kind privileged n a v ∷ []) []
+callsBy (many list answers answers₁ made k) = callsMade list answers
 
 -- and their codes
-abbrev pub codesIn : Use → List ℕ
-codesIn (one kind privileged n a v code k) = cond (isCall kind privileged) (code ∷ []) []
-codesIn (many list answers answers₁ made k) = take made answers₁
+abbrev pub codesBy : Use → List ℕ
+codesBy (one kind privileged n a v code k) = cond (isCall kind privileged) (code ∷ []) []
+codesBy (many list answers answers₁ made k) = take made answers₁
 
 -- ---- a chain of uses
 
@@ -83,11 +83,11 @@ Chain l (u ∷ us) = (Meets l u × Fits32 u) × Chain (left u) us
 -- all calls, all codes, and what the caller holds at the end
 unfoldable pub callsOf : List Use → List Call
 callsOf [] = []
-callsOf (u ∷ us) = callsIn u ++ callsOf us
+callsOf (u ∷ us) = callsBy u ++ callsOf us
 
 unfoldable pub codesOf : List Use → List ℕ
 codesOf [] = []
-codesOf (u ∷ us) = codesIn u ++ codesOf us
+codesOf (u ∷ us) = codesBy u ++ codesOf us
 
 unfoldable pub lastOf : Lent → List Use → Lent
 lastOf l [] = l
