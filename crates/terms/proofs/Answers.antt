@@ -1,7 +1,7 @@
 -- What a call and a start leave, by their refusal: a refused one changes nothing, any other call answers a value or a fault.
 use Prim.Native.Nat.{ℕ}
 use native.Mathlib.Omega.{arith}
-use mathlib.Core.Path.{_≡_, refl, subst}
+use mathlib.Core.Path.{_≡_, refl, sym, subst}
 use mathlib.Core.List.{List}
 use lib.Dec.{eqb}
 use borrow.Author.Tests.{eq-eqb, ne-eqb}
@@ -21,27 +21,96 @@ use Rattle.values.specs.declared.Search.{Search}
 use Rattle.values.specs.declared.Search.the-variants.{At, Nothing}
 use Rattle.values.specs.declared.Status.{Status}
 use Rattle.values.proofs.Cases.{case}
+use Rattle.words.specs.Words.{valueAt}
 use Rattle.words.specs.Signed.{loadAnswer}
 use Rattle.bus.specs.Physical.{aborts}
-use Rattle.cache.specs.Dcache.{find}
+use Rattle.cache.specs.Dcache.{find, hitLoad}
 use Rattle.translation.specs.Alignment.{cleared}
 use Rattle.translation.specs.Faults.{fills, buffers, fillStatus, otherStatus, faultSet}
 use Rattle.translation.specs.declared.Translation.{Translation}
 use Rattle.translation.specs.declared.Place.{Place}
 use Rattle.translation.specs.declared.Checked.{Checked}
 use Rattle.translation.specs.declared.Checked.the-variants.{Passed, Denied}
-use Rattle.machine.specs.Machine.{Machine, physicalOf, withCounts, Stepped}
+use Rattle.machine.specs.Machine.{Machine, memoryOf, storeOf, physicalOf, withCounts, Stepped}
 use Rattle.reach.specs.Reach.{decision, committed, faulted}
 use Rattle.loads.specs.Loads.{loadHit, loadFill, loadUncached, loadMiss, loadFound, load}
 use Rattle.stores.specs.Stores.{storeHit, storeBuffered, storeDirect, storeMiss, storeFound, store}
 use Rattle.access.specs.Access.{passed, accessAt, access}
+use Rattle.registers.specs.Registers.{readOf}
 use Rattle.cp15.specs.Operations as cp15
 use Rattle.step.specs.Meets.{startRefusal, refusal}
 use Rattle.step.specs.Start.{started}
 use Rattle.step.specs.Call.{done, served}
 use Rattle.terms.specs.Term1.{ValueOrFault, Term1At, Term1Start}
 
+-- ---- what an accepted call answers
+
+-- A served access, over the machine that it leaves: a load answers the number of bytes of memory or of the cache store, from some place on; a store
+-- answers 0.
+pub data Accessed (a : Access) (x : Stepped) : Type 0 where
+  of-memory : (at : ℕ) → x .answer ≡ loadAnswer (a .kind) (a .width) (valueAt (a .width) (memoryOf (x .machine)) at) → Accessed a x
+  of-cache : (at : ℕ) → x .answer ≡ loadAnswer (a .kind) (a .width) (valueAt (a .width) (storeOf (x .machine)) at) → Accessed a x
+  stores : (v : ℕ) → a .kind ≡ Store v → x .answer ≡ answer.Value 0 → Accessed a x
+
+-- a served call: a CP15 read answers a register of the machine that it leaves, a CP15 write 0
+abbrev pub Answers : Call → Stepped → Type 0
+Answers (calls.Access a) x = Accessed a x
+Answers (Read t) x = x .answer ≡ answer.Value (readOf (x .machine .cp15 .registers) (t .register))
+Answers (Write t v) x = x .answer ≡ answer.Value 0
+
 -- ---- what holds of every fault, and of whatever answers a value, holds of every accepted call
+
+module _ (P : Stepped → Type 0) where
+  module _ (m : Machine) (a : Access) (value : (x : Stepped) → Accessed a x → P x) (fault : (s : Status) (d : ℕ) → P (faulted m s d (a .address))) where
+    module _ (p : Place) where
+      load-miss-by : P (loadMiss m a p)
+      unfolding loadMiss loadFill loadUncached hitLoad
+      load-miss-by =
+          case (fills (m .cp15 .registers) p)
+          (λ f.
+          case (aborts (physicalOf m) (p .address)) (λ h. rw (f, h) (fault (fillStatus p) (p .domain)))
+          (λ h. rw (f, h) (value _ (of-cache _ refl))))
+          (λ f.
+          case (aborts (physicalOf m) (p .address)) (λ h. rw (f, h) (fault (otherStatus p) (p .domain)))
+          (λ h. rw (f, h) (value _ (of-memory _ refl))))
+
+      load-found-by : (x : Search) → P (loadFound m a p x)
+      unfolding loadHit hitLoad
+      load-found-by (At i) = value _ (of-cache _ refl)
+      load-found-by Nothing = load-miss-by
+
+      module _ (v : ℕ) (k : a .kind ≡ Store v) where
+        store-miss-by : P (storeMiss m a v p)
+        unfolding storeMiss storeBuffered storeDirect
+        store-miss-by =
+            case (buffers (m .cp15 .registers) p) (λ f. rw f (value _ (stores v k refl)))
+            (λ f.
+            case (aborts (physicalOf m) (p .address)) (λ h. rw (f, h) (fault (otherStatus p) (p .domain)))
+            (λ h. rw (f, h) (value _ (stores v k refl))))
+
+        store-found-by : (x : Search) → P (storeFound m a v p x)
+        unfolding storeHit
+        store-found-by (At i) = value _ (stores v k refl)
+        store-found-by Nothing = store-miss-by
+
+      passed-by : (k : Kind) → a .kind ≡ k → P (passed m a p k)
+      unfolding load store
+      passed-by Load e = load-found-by (find (m .side .cache .lines) (cleared a))
+      passed-by SignedLoad e = load-found-by (find (m .side .cache .lines) (cleared a))
+      passed-by (Store v) e = store-found-by v e (find (m .side .cache .lines) (cleared a))
+
+    at-by : (c : Checked) → P (accessAt m a c)
+    unfolding accessAt
+    at-by (Denied s d) = fault s d
+    at-by (Passed p) = passed-by p (a .kind) refl
+
+  pub done-by : (m : Machine) (c : Call) → ((x : Stepped) → Answers c x → P x)
+      → ((t : Translation) (s : Status) (d : ℕ) (va : VirtualAddress) → P (faulted (committed m t) s d va)) → P (done m c)
+  unfolding access cp15.read cp15.write
+  done-by m (calls.Access a) value fault =
+      let d = decision m a in at-by (committed m (d .mapping)) a value (λ s x. fault (d .mapping) s x (a .address)) (d .checked)
+  done-by m (Read t) value fault = value _ refl
+  done-by m (Write t v) value fault = value _ refl
 
 -- an answer that is a value
 abbrev IsValue : Answer → Type 0
@@ -55,55 +124,13 @@ load-value Load width v = tt
 load-value SignedLoad width v = tt
 load-value (Store x) width v = tt
 
-module _ (P : Stepped → Type 0) (value : (x : Stepped) → IsValue (x .answer) → P x) where
-  module _ (m : Machine) (a : Access) (fault : (s : Status) (d : ℕ) → P (faulted m s d (a .address))) where
-    module _ (p : Place) where
-      load-miss-by : P (loadMiss m a p)
-      unfolding loadMiss loadFill loadUncached
-      load-miss-by =
-          case (fills (m .cp15 .registers) p)
-          (λ f.
-          case (aborts (physicalOf m) (p .address)) (λ h. rw (f, h) (fault (fillStatus p) (p .domain)))
-          (λ h. rw (f, h) (value _ (load-value (a .kind) (a .width) _))))
-          (λ f.
-          case (aborts (physicalOf m) (p .address)) (λ h. rw (f, h) (fault (otherStatus p) (p .domain)))
-          (λ h. rw (f, h) (value _ (load-value (a .kind) (a .width) _))))
-
-      load-found-by : (x : Search) → P (loadFound m a p x)
-      unfolding loadHit
-      load-found-by (At i) = value _ (load-value (a .kind) (a .width) _)
-      load-found-by Nothing = load-miss-by
-
-      store-miss-by : (v : ℕ) → P (storeMiss m a v p)
-      unfolding storeMiss storeBuffered storeDirect
-      store-miss-by v =
-          case (buffers (m .cp15 .registers) p) (λ f. rw f (value _ tt))
-          (λ f.
-          case (aborts (physicalOf m) (p .address)) (λ h. rw (f, h) (fault (otherStatus p) (p .domain)))
-          (λ h. rw (f, h) (value _ tt)))
-
-      store-found-by : (v : ℕ) (x : Search) → P (storeFound m a v p x)
-      unfolding storeHit
-      store-found-by v (At i) = value _ tt
-      store-found-by v Nothing = store-miss-by v
-
-      passed-by : (k : Kind) → P (passed m a p k)
-      unfolding load store
-      passed-by Load = load-found-by (find (m .side .cache .lines) (cleared a))
-      passed-by SignedLoad = load-found-by (find (m .side .cache .lines) (cleared a))
-      passed-by (Store v) = store-found-by v (find (m .side .cache .lines) (cleared a))
-
-    at-by : (c : Checked) → P (accessAt m a c)
-    unfolding accessAt
-    at-by (Denied s d) = fault s d
-    at-by (Passed p) = passed-by p (a .kind)
-
-  pub done-by : (m : Machine) → ((t : Translation) (s : Status) (d : ℕ) (va : VirtualAddress) → P (faulted (committed m t) s d va)) → (c : Call) → P (done m c)
-  unfolding access cp15.read cp15.write
-  done-by m fault (calls.Access a) =
-      let d = decision m a in at-by (committed m (d .mapping)) a (λ s x. fault (d .mapping) s x (a .address)) (d .checked)
-  done-by m fault (Read t) = value _ tt
-  done-by m fault (Write t v) = value _ tt
+-- what an accepted call answers but for a fault is a value
+answers-value : (c : Call) (x : Stepped) → Answers c x → IsValue (x .answer)
+answers-value (calls.Access a) x (of-memory at e) = subst IsValue (sym e) (load-value (a .kind) (a .width) (valueAt (a .width) (memoryOf (x .machine)) at))
+answers-value (calls.Access a) x (of-cache at e) = subst IsValue (sym e) (load-value (a .kind) (a .width) (valueAt (a .width) (storeOf (x .machine)) at))
+answers-value (calls.Access a) x (stores v k e) = subst IsValue (sym e) tt
+answers-value (Read t) x e = subst IsValue (sym e) tt
+answers-value (Write t v) x e = subst IsValue (sym e) tt
 
 -- ---- every accepted call answers a value or a fault
 
@@ -118,7 +145,7 @@ value-or-fault x v = by (x .answer) v
 
 done-answers : (m : Machine) (c : Call) → ValueOrFault (done m c .answer)
 unfolding faulted
-done-answers m c = done-by (λ x. ValueOrFault (x .answer)) value-or-fault m (λ t s d va. tt) c
+done-answers m c = done-by (λ x. ValueOrFault (x .answer)) m c (λ x v. value-or-fault x (answers-value c x v)) (λ t s d va. tt)
 
 -- ---- what a fault leaves
 
@@ -142,13 +169,13 @@ no-fault (answer.Refused n) u f e = u
 done-fault : (m : Machine) (c : Call) (f : Fault) → done m c .answer ≡ answer.Fault f → FaultKeeps m f (done m c .machine)
 unfolding faulted committed faultSet
 done-fault m c =
-    done-by (λ x. (f : Fault) → x .answer ≡ answer.Fault f → FaultKeeps m f (x .machine)) (λ x v f e. absurd (no-fault (x .answer) v f e)) m
+    done-by (λ x. (f : Fault) → x .answer ≡ answer.Fault f → FaultKeeps m f (x .machine)) m c
+    (λ x v f e. absurd (no-fault (x .answer) (answers-value c x v) f e))
     (λ t s d va f e.
     let g : Fault = record { status = s; domain = d; address = va } in
     let q : g ≡ f = cc in
     subst (λ (y : Fault). FaultKeeps m y (faulted (committed m t) s d va .machine)) q
     (record { sets-fsr = refl; sets-far = refl; side = refl; size = refl; control = refl; base = refl; domains = refl }))
-    c
 
 -- ---- a call and a start, by their refusal
 

@@ -1,0 +1,11 @@
+pub mod Digits
+pub mod Within
+pub mod Separators
+pub mod FieldAt
+pub mod Verdicts
+pub mod Scan
+pub mod Means
+pub mod LineRead
+pub mod Parsing
+pub mod Calls
+pub mod First

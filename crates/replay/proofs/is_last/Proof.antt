@@ -1,0 +1,14 @@
+use borrow.Author.Tests.{ne-eqb}
+use borrow.Author.Needs.{needs}
+use borrow.Author.Needs.{needs}
+use Rattle.replay.proofs.is_last.Statement.{statement}
+use Rattle.replay.proofs.is_last.Tie as tie
+
+returns : tie.Need-returns
+returns c = rw (c .if1 .taken)
+
+returns-2 : tie.Need-returns-2
+returns-2 c = search needs
+
+pub is-last-spec : {M : Type 1} → statement M
+is-last-spec = tie.close (tie.spec returns returns-2)

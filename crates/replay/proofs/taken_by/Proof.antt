@@ -1,0 +1,13 @@
+use borrow.Author.Tests.{ne-eqb}
+use borrow.Author.Needs.{needs}
+use Rattle.replay.proofs.taken_by.Statement.{statement}
+use Rattle.replay.proofs.taken_by.Tie as tie
+
+returns : tie.Need-returns
+returns c = rw (c .if1 .taken)
+
+returns-2 : tie.Need-returns-2
+returns-2 c = rw (ne-eqb _ 0 (c .if1 .left))
+
+pub taken-by-spec : {M : Type 1} → statement M
+taken-by-spec = tie.close (tie.spec returns returns-2)
