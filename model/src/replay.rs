@@ -37,7 +37,7 @@ impl Replays for Plain {
 #[derive(Clone, Debug, Default, PartialEq, Eq)]
 pub struct Replayed {
     pub output: Vec<u8>,
-    /// Lines that were calls.
+    /// Lines printed.
     pub lines: u64,
     /// It stopped at a line that departs from the form.
     pub stopped: bool,
@@ -70,11 +70,11 @@ pub fn replay_on<T: Replays>(machine: &mut T, before: u64, input: &[u8]) -> Repl
         let answer = call_of(line).map(|call| machine.answer(&call));
         let printed = print(number, answer.unwrap_or(Answer::Refused(DEPARTS)));
         replayed.output.extend(printed.bytes());
+        replayed.lines += 1;
         if answer.is_none() {
             replayed.stopped = true;
             break;
         }
-        replayed.lines += 1;
     }
     replayed
 }
@@ -119,7 +119,7 @@ fn number_of(field: &[u8]) -> Option<u32> {
 }
 
 /// Replays what a reader gives on a fresh machine and writes the answers; the lines are read into one
-/// buffer. Gives the number of lines replayed.
+/// buffer. Gives the number of lines printed.
 pub fn stream(mut input: impl BufRead, mut output: impl Write) -> io::Result<u64> {
     let mut machine = fresh();
     let mut line = Vec::with_capacity(LINE_LIMIT + 1);
@@ -133,7 +133,6 @@ pub fn stream(mut input: impl BufRead, mut output: impl Write) -> io::Result<u64
         number += 1;
         let Some(call) = parse(&line) else {
             writeln!(output, "{number},2,{DEPARTS}")?;
-            number -= 1;
             break;
         };
         match machine.step(&call, &mut Unwatched) {
@@ -197,7 +196,8 @@ mod tests {
 
     #[test]
     fn answers() {
-        let input = "2,1,1,9,128\n0,1,1,9,0\n1,1,1,9,0\n1,1,1,8,0\n2,1,4,16,2147483648\n1,1,4,16,7\n\
+        let input =
+            "2,1,1,9,128\n0,1,1,9,0\n1,1,1,9,0\n1,1,1,8,0\n2,1,4,16,2147483648\n1,1,4,16,7\n\
                      1,1,2,18,0\n0,0,4,65536,0\n3,1,6,0,0\n3,0,6,0,0\n4,1,1,0,128\n4,1,1,0,5\n\
                      4,1,7,122,0\n4,1,7,74,0\n2,1,1,0,256\n3,1,7,0,0\n";
         let output = "1,0,0\n2,0,128\n3,0,-128\n4,0,0\n5,0,0\n6,0,-2147483648\n\
@@ -269,8 +269,12 @@ mod tests {
 
     #[test]
     fn replay_behind_lines() {
-        let replayed = replay_on(&mut fresh(), u64::from(u32::MAX), b"3,1,1,0,0\n\n3,1,1,0,0\n");
+        let replayed = replay_on(
+            &mut fresh(),
+            u64::from(u32::MAX),
+            b"3,1,1,0,0\n\n3,1,1,0,0\n",
+        );
         assert_eq!(replayed.output, b"4294967296,0,112\n4294967297,2,13\n");
-        assert_eq!((replayed.lines, replayed.stopped), (1, true));
+        assert_eq!((replayed.lines, replayed.stopped), (2, true));
     }
 }
