@@ -127,31 +127,34 @@ impl Cuts {
         late: false,
     };
 
-    pub fn random(rng: &mut Rng) -> Cuts {
-        let parts = [
-            Parts::Whole,
-            Parts::Bytes,
-            Parts::UpTo(3),
-            Parts::UpTo(40),
-            Parts::UpTo(500),
-            Parts::UpTo(70_000),
-        ];
-        let rooms = [
-            Rooms::Of(1),
+    /// Random cuts of a text of so many bytes; a long one is mostly cut into longer parts.
+    pub fn random(rng: &mut Rng, length: usize) -> Cuts {
+        let all = length < 2_000 || length < 30_000 && rng.percent(5);
+        let short = [Parts::Bytes, Parts::UpTo(3), Parts::UpTo(40)];
+        let long = [Parts::Whole, Parts::UpTo(500), Parts::UpTo(70_000)];
+        let parts = if all && rng.percent(60) {
+            rng.pick(&short)
+        } else {
+            rng.pick(&long)
+        };
+        let few = [Rooms::Of(1), Rooms::UpTo(100)];
+        let some = [
             Rooms::Of(33),
             Rooms::Of(34),
             Rooms::Of(35),
-            Rooms::Of(LONGEST),
             Rooms::Few,
-            Rooms::Few,
-            Rooms::UpTo(100),
             Rooms::UpTo(2_000),
-            Rooms::UpTo(LONGEST as u32),
         ];
+        let many = [Rooms::Of(LONGEST), Rooms::UpTo(LONGEST as u32)];
+        let rooms = match rng.below(10) {
+            0..=2 if all => rng.pick(&few),
+            3..=5 if long.contains(&parts) => rng.pick(&many),
+            _ => rng.pick(&some),
+        };
         Cuts {
             seed: rng.draw(),
-            parts: rng.pick(&parts),
-            rooms: rng.pick(&rooms),
+            parts,
+            rooms,
             empty: rng.percent(60),
             late: rng.percent(50),
         }
