@@ -3,7 +3,7 @@
 
 use crate::packed::{OfModel, Packed};
 use crate::shrunk;
-use sa110::{Replay, STORE_BYTES};
+use sa110::{Replay, PRINTED_LINE, STORE_BYTES};
 use sa110_model::answers::STATUSES;
 use sa110_model::random::Rng;
 use sa110_model::replay::{replay_on, Replayed, MEMORY_BYTES};
@@ -188,6 +188,8 @@ impl Cuts {
 
 /// The longest slice for what is printed.
 const LONGEST: usize = 65_536;
+/// One call replays so many lines at most.
+const LINES_A_CALL: usize = 1_024;
 /// So many bytes behind the slice are watched too.
 const BEHIND: usize = 64;
 
@@ -243,6 +245,8 @@ impl Fed<'_> {
             store,
         } = &mut self.left;
         self.calls += 1;
+        let (waiting, held) = (replay.waiting, replay.held);
+        let (stopped, lines) = (replay.stopped != 0, replay.lines);
         let out = &mut self.out;
         if out.len() < room + BEHIND {
             out.resize(room + BEHIND, self.mark);
@@ -256,6 +260,24 @@ impl Fed<'_> {
         if answer != 0 || taken > text.len() || written > room {
             return Err(format!(
                 "{}: gives {answer}, takes {taken}, writes {written}",
+                said()
+            ));
+        }
+        // what one call does
+        let most = match (held, room / PRINTED_LINE) {
+            (0, fit) => fit.clamp(1, LINES_A_CALL),
+            _ => 1,
+        };
+        let replayed = replay.lines.wrapping_sub(lines);
+        let does = match (waiting, stopped) {
+            (0, false) => replayed <= most as u64,
+            (0, true) => (taken, written, replayed) == (text.len(), 0, 0),
+            _ => (taken, written, replayed) == (0, waiting.min(room), 0),
+        };
+        if !does {
+            return Err(format!(
+                "{}, {waiting} wait, {held} held, stopped {stopped}: takes {taken}, writes {written}, \
+                 replays {replayed} lines",
                 said()
             ));
         }

@@ -331,6 +331,21 @@ fn records_between_parts() {
     println!("texts compared {replays}, from records between two parts");
 }
 
+/// A start's refusals are the start's.
+#[test]
+fn starts() {
+    for (memory, store, expected) in [
+        (0, STORE_BYTES, Ok(0)),
+        (MEMORY_BYTES, STORE_BYTES, Ok(MEMORY_BYTES)),
+        (33, STORE_BYTES, Err(1)),
+        (64, 5, Err(2)),
+        (33, 5, Err(1)),
+    ] {
+        let started = Replay::start(&vec![0; memory], &vec![0; store]);
+        assert_eq!(started.map(|replay| replay.state.size), expected);
+    }
+}
+
 /// The largest number of lines that a record may have, and one line behind it.
 #[test]
 fn most_lines() {
