@@ -203,6 +203,8 @@ struct Fed<'a> {
     out: Vec<u8>,
     mark: u8,
     calls: u64,
+    /// What each call was given, took and wrote, where it is asked for.
+    log: Option<Vec<String>>,
 }
 
 impl Fed<'_> {
@@ -253,6 +255,10 @@ impl Fed<'_> {
         }
         let answer = replay.part(memory, store, text, ends, &mut out[..room]);
         let (taken, written) = (replay.taken, replay.written);
+        if let Some(log) = &mut self.log {
+            let (n, end) = (text.len(), if ends { ", ends" } else { "" });
+            log.push(format!("text {n}{end}, room {room}: {taken}, {written}"));
+        }
         let said = || {
             let (call, length) = (self.calls, text.len());
             format!("call {call}: {length} bytes of text, ends {ends}, {room} of room")
@@ -304,53 +310,63 @@ fn difference(
     cuts: &Cuts,
     calls: &mut u64,
 ) -> Option<String> {
-    let mut rng = Rng::new(cuts.seed);
-    let mark = rng.pick(&[0xA5, 0, b'1', b'\n', 0xFF]);
-    let mut fed = Fed {
-        cuts,
-        rng,
-        left: begin.clone(),
-        output: Vec::new(),
-        out: Vec::new(),
-        mark,
-        calls: 0,
-    };
+    let mut fed = Fed::new(begin, cuts);
     let ran = fed.all(text);
     *calls += fed.calls;
-    if let Err(what) = ran {
-        return Some(what);
+    ran.err().or_else(|| fed.difference(expected))
+}
+
+impl Fed<'_> {
+    fn new<'a>(begin: &Begin, cuts: &'a Cuts) -> Fed<'a> {
+        let mut rng = Rng::new(cuts.seed);
+        let mark = rng.pick(&[0xA5, 0, b'1', b'\n', 0xFF]);
+        Fed {
+            cuts,
+            rng,
+            left: begin.clone(),
+            output: Vec::new(),
+            out: Vec::new(),
+            mark,
+            calls: 0,
+            log: None,
+        }
     }
-    let Fed { left, output, .. } = fed;
-    let r = &left.replay;
-    if output != expected.output {
-        let same = output.iter().zip(&expected.output);
-        let at = same.take_while(|(p, m)| p == m).count();
-        let shown = |bytes: &[u8]| {
-            let from = at.saturating_sub(40).min(bytes.len());
-            let to = (at + 40).min(bytes.len());
-            bytes[from..to].escape_ascii().to_string()
-        };
-        let (p, m) = (shown(&output), shown(&expected.output));
-        return Some(format!(
-            "output at byte {at}:\nproved ..{p}..\nmodel  ..{m}.."
-        ));
+
+    /// What differs behind the whole text.
+    fn difference(&self, expected: &Expected) -> Option<String> {
+        let Fed { left, output, .. } = self;
+        let r = &left.replay;
+        if *output != expected.output {
+            let same = output.iter().zip(&expected.output);
+            let at = same.take_while(|(p, m)| p == m).count();
+            let shown = |bytes: &[u8]| {
+                let from = at.saturating_sub(40).min(bytes.len());
+                let to = (at + 40).min(bytes.len());
+                bytes[from..to].escape_ascii().to_string()
+            };
+            let (p, m) = (shown(output), shown(&expected.output));
+            return Some(format!(
+                "output at byte {at}:\nproved ..{p}..\nmodel  ..{m}.."
+            ));
+        }
+        let parts = [
+            (r.lines != expected.lines)
+                .then(|| format!("lines {} not {}", r.lines, expected.lines)),
+            ((r.stopped != 0) != expected.stopped).then(|| format!("stopped {}", r.stopped)),
+            (r.waiting != 0).then(|| format!("{} bytes wait", r.waiting)),
+            (r.held != 0 && !expected.stopped).then(|| format!("{} bytes held", r.held)),
+            (r.state.counts != expected.packed.state.counts).then(|| {
+                format!(
+                    "counts {:?} not {:?}",
+                    r.state.counts, expected.packed.state.counts
+                )
+            }),
+            (left.packed() != expected.packed).then(|| "state or record".to_string()),
+            (left.memory != expected.memory).then(|| "memory".to_string()),
+            (left.store != expected.store).then(|| "store".to_string()),
+        ];
+        parts.into_iter().flatten().next()
     }
-    let parts = [
-        (r.lines != expected.lines).then(|| format!("lines {} not {}", r.lines, expected.lines)),
-        ((r.stopped != 0) != expected.stopped).then(|| format!("stopped {}", r.stopped)),
-        (r.waiting != 0).then(|| format!("{} bytes wait", r.waiting)),
-        (r.held != 0 && !expected.stopped).then(|| format!("{} bytes held", r.held)),
-        (r.state.counts != expected.packed.state.counts).then(|| {
-            format!(
-                "counts {:?} not {:?}",
-                r.state.counts, expected.packed.state.counts
-            )
-        }),
-        (left.packed() != expected.packed).then(|| "state or record".to_string()),
-        (left.memory != expected.memory).then(|| "memory".to_string()),
-        (left.store != expected.store).then(|| "store".to_string()),
-    ];
-    parts.into_iter().flatten().next()
 }
 
 /// How often each kind of answer was printed.
@@ -477,11 +493,16 @@ fn report(name: String, begin: &Begin, text: &[u8], cuts: &Cuts) -> ! {
         text = shrunk(&text, |text| differs(text).is_some());
     }
     let what = differs(&text).unwrap_or_default();
+    let mut fed = Fed::new(begin, cuts);
+    fed.log = Some(Vec::new());
+    let _ = fed.all(&text); // what it says is in `what`
+    let log = fed.log.unwrap_or_default();
+    let calls = log[..log.len().min(200)].join("\n  ");
     let r = &begin.replay;
     let shown = &text[..text.len().min(4_000)];
     panic!(
         "{name}\n{what}\n{cuts:?}\nbegins with lines {}, stopped {}, held {:?}, waiting {:?}\n\
-         text of {} bytes: \"{}\"",
+         calls, with what each takes and writes:\n  {calls}\ntext of {} bytes: \"{}\"",
         r.lines,
         r.stopped,
         r.begun[..r.held].escape_ascii().to_string(),

@@ -5,10 +5,11 @@ use sa110_compare::replays::{Begin, Cuts, Parts, Replays, Rooms};
 use sa110_model::random::guided::{free_from_zeros, guided_from_zeros};
 use sa110_model::random::rng::{from_environment, Rng};
 use sa110_model::random::texts::{changed, departing_line, text_of, varied_text_of};
-use sa110_model::replay::{fresh_plain, replay_on, replay_plain, MEMORY_BYTES};
+use sa110_model::replay::{fresh_plain, replay_on, replay_plain, stream, MEMORY_BYTES};
 use sa110_model::rules::Rules;
 use sa110_model::state::STORE_BYTES;
 use sa110_model::Call;
+use std::io::BufReader;
 
 /// Calls that set up tables and use them, or any calls without translation.
 fn calls(rng: &mut Rng, length: usize) -> Vec<Call> {
@@ -51,6 +52,18 @@ fn text(rng: &mut Rng, length: usize) -> Vec<u8> {
     text
 }
 
+const FRESH: &str = "a fresh start";
+
+/// The library's replay of a whole text and the second model's of what a reader gives print the same.
+fn other_replays(rng: &mut Rng, text: &[u8], printed: &[u8], name: &str) {
+    assert!(sa110::replay(text) == printed, "{name}: the whole text");
+    let capacity = rng.pick(&[1, 7, 64, 65_536]);
+    let mut streamed = Vec::new();
+    let input = BufReader::with_capacity(capacity, text);
+    stream(input, &mut streamed).expect("slices do not fail");
+    assert!(streamed == printed, "{name}: the second model's stream");
+}
+
 /// A start as the paper has it, or now and then one that lends what does not fit, has a state that is not
 /// sound, counts up to the limit, or is behind many lines.
 fn begin(rng: &mut Rng) -> (Begin, String) {
@@ -82,7 +95,7 @@ fn begin(rng: &mut Rng) -> (Begin, String) {
             begin.replay.lines = rng.pick(&[98, 9_998, 999_999_999, u32::MAX as u64 - 5, most]);
             "many lines before"
         }
-        _ => "a fresh start",
+        _ => FRESH,
     };
     (begin, name.to_string())
 }
@@ -105,9 +118,11 @@ fn random_texts() {
         let text = text(rng, length as usize);
         let mut cuts = vec![Cuts::WHOLE];
         cuts.extend((0..3).map(|_| Cuts::random(rng, text.len())));
-        replays.compare(&begin, &text, &cuts, &|| {
-            format!("seed {seed}, text {n}, {what}")
-        });
+        let name = format!("seed {seed}, text {n}, {what}");
+        let printed = replays.compare(&begin, &text, &cuts, &|| name.clone());
+        if what == FRESH {
+            other_replays(rng, &text, &printed, &name);
+        }
     }
     println!("texts compared {replays}");
     println!("{}", replays.printed);
@@ -136,9 +151,11 @@ fn texts_with_one_byte_changed() {
         let mut rng = Rng::of_run(seed, n as u64);
         for (i, text) in changed(text).enumerate() {
             let cuts = [Cuts::random(&mut rng, text.len())];
-            replays.compare(&begin, &text, &cuts, &|| {
-                format!("seed {seed}, text {n}, change {i}")
-            });
+            let name = || format!("seed {seed}, text {n}, change {i}");
+            let printed = replays.compare(&begin, &text, &cuts, &name);
+            if i % 4 == 0 {
+                other_replays(&mut rng, &text, &printed, &name());
+            }
         }
     }
     println!("texts compared {replays}, with one byte changed");
