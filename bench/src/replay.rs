@@ -19,7 +19,8 @@ replay: a text of 16,384 lines again and again, each time on a fresh machine wit
   run: the library's run over the same calls, parsed before, 1,024 at a time; nothing is read, parsed or printed. difference: library - run
   flat: loads and stores anywhere in memory, without translation
   hits: the first lines write page tables and switch on MMU, Dcache and write buffer; then loads and stores of the 512 lines of 4 small pages
-  mixed: as hits, of 10 small pages, with fills and evictions; of 100 calls about 10 CP15 calls and 10 faults and refusals";
+  mixed: as hits, of 10 small pages, with fills and evictions; of 100 calls about 10 CP15 calls and 10 faults and refusals
+  long lines: as hits, of a section of the last megabyte; addresses and values have ten digits";
 
 /// A text has so many lines.
 const LINES: usize = 16_384;
@@ -44,6 +45,7 @@ pub fn print_rows(rounds: usize) -> io::Result<()> {
         ("replay, flat", flat(rng)),
         ("replay, hits", hits(rng)),
         ("replay, mixed", mixed(rng)),
+        ("replay, long lines", long_lines(rng)),
     ];
     for (name, calls) in texts {
         let [library, model, run] = measured(name, &calls, rounds)?;
@@ -57,6 +59,26 @@ pub fn print_rows(rounds: usize) -> io::Result<()> {
 
 fn flat(rng: &mut Rng) -> Vec<Call> {
     (0..LINES).map(|_| access(rng, 0, 2048)).collect()
+}
+
+/// Loads and stores of words in the 512 lines of 16 KB, at addresses and with values of ten digits.
+fn long_lines(rng: &mut Rng) -> Vec<Call> {
+    let mut calls = vec![
+        // the last megabyte is a section of physical 0
+        Call::store(4, 0x3FFC, 0xC0E),
+        Call::write(3, 1),
+        Call::write(2, 0),
+        Call::flush_tlb(),
+        Call::write(1, 0xD),
+    ];
+    calls.resize_with(LINES, || {
+        let address = 0xFFF0_8000 + rng.below(4096) * 4;
+        match rng.below(2) {
+            0 => Call::store(4, address, rng.word() | 1 << 31),
+            _ => Call::load(4, address),
+        }
+    });
+    calls
 }
 
 /// The stores that write the tables, and the calls that switch translation on.

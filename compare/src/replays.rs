@@ -6,7 +6,7 @@ use crate::shrunk;
 use sa110::{Replay, PRINTED_LINE, STORE_BYTES};
 use sa110_model::answers::STATUSES;
 use sa110_model::random::Rng;
-use sa110_model::replay::{replay_on, Replayed, MEMORY_BYTES};
+use sa110_model::replay::{call_of, replay_on, Replayed, MEMORY_BYTES};
 use sa110_model::Machine;
 use std::fmt;
 
@@ -372,39 +372,46 @@ impl Fed<'_> {
 /// How often each kind of answer was printed.
 #[derive(Clone, Default)]
 pub struct Printed {
-    zeros: u64,
-    positive: u64,
+    /// Loads, signed loads, stores, CP15 reads and writes.
+    served: [u64; 5],
+    /// Signed loads with a minus sign.
     negative: u64,
     statuses: [u64; 16],
     refusals: [u64; 14],
 }
 
 impl Printed {
-    /// Takes note of printed lines.
-    fn note(&mut self, output: &[u8]) {
-        for line in output.split(|byte| *byte == b'\n') {
-            let line = std::str::from_utf8(line).expect("printed text");
-            let fields: Vec<_> = line.split(',').collect();
+    /// Takes note of a text's lines and what they print.
+    fn note(&mut self, text: &[u8], output: &[u8]) {
+        let lines = text.split_inclusive(|byte| *byte == b'\n');
+        for (line, printed) in lines.zip(output.split(|byte| *byte == b'\n')) {
+            let printed = std::str::from_utf8(printed).expect("printed text");
+            let fields: Vec<_> = printed.split(',').collect();
             let [_, kind, value] = fields[..] else {
-                continue; // the end, or the rest of a line that waited
+                continue; // behind a line that departs from the form
             };
             let value: i64 = value.parse().expect("a printed number");
-            match kind {
-                "0" if value < 0 => self.negative += 1,
-                "0" if value == 0 => self.zeros += 1,
-                "0" => self.positive += 1,
-                "1" => self.statuses[value as usize % 16] += 1,
+            match (kind, call_of(line)) {
+                ("0", _) if value < 0 => self.negative += 1,
+                ("0", Some(call)) => self.served[call.to_numbers()[0] as usize] += 1,
+                ("0", None) => panic!("no call is served"),
+                ("1", _) => self.statuses[value as usize % 16] += 1,
                 _ => self.refusals[value as usize] += 1,
             }
         }
     }
 
     fn rows(&self) -> Vec<(String, u64)> {
-        let mut rows = vec![
-            ("served with 0".to_string(), self.zeros),
-            ("served, positive".to_string(), self.positive),
-            ("served, negative".to_string(), self.negative),
+        let names = [
+            "load served",
+            "signed load served, not negative",
+            "store served",
+            "read served",
+            "write served",
         ];
+        let served = names.iter().zip(self.served);
+        let mut rows: Vec<_> = served.map(|(name, n)| (name.to_string(), n)).collect();
+        rows.push(("signed load served, negative".to_string(), self.negative));
         for number in 1..=13 {
             rows.push((format!("refusal {number}"), self.refusals[number]));
         }
@@ -461,7 +468,10 @@ impl Replays {
         self.texts += 1;
         self.lines += expected.lines - begin.replay.lines;
         self.replays += cuts.len() as u64;
-        self.printed.note(&expected.output);
+        let r = &begin.replay;
+        if (r.held, r.waiting, r.stopped) == (0, 0, 0) {
+            self.printed.note(text, &expected.output);
+        }
         expected.output
     }
 }

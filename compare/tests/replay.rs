@@ -363,22 +363,25 @@ fn starts() {
     }
 }
 
-/// The largest number of lines that a record may have, and one line behind it.
+/// The line behind the largest number of lines that a record may have, which is the longest printed.
 #[test]
 fn most_lines() {
     let mut begin = Begin::fresh();
-    begin.replay.lines = i64::MAX as u64;
-    let text = b"2,1,4,0,2147483648\n";
-    let mut out = [7; 64];
     let (memory, store) = (&mut begin.memory, &mut begin.store);
-    begin.replay.lines -= 1;
-    assert_eq!(begin.replay.part(memory, store, text, false, &mut out), 0);
+    let replay = &mut begin.replay;
+    replay.lines = i64::MAX as u64 - 1;
+    let mut out = [7; 64];
+    let text = b"2,1,4,0,2147483648\n";
+    assert_eq!(replay.part(memory, store, text, false, &mut out), 0);
+    assert_eq!(replay.lines, i64::MAX as u64);
+    out.fill(7);
     let text = b"1,1,4,0,0\n";
-    assert_eq!(begin.replay.lines, i64::MAX as u64);
-    assert_eq!(begin.replay.part(memory, store, text, true, &mut out), 0);
+    assert_eq!(replay.part(memory, store, text, true, &mut out), 0);
     let longest = b"9223372036854775808,0,-2147483648\n";
-    assert_eq!(longest.len(), PRINTED_LINE);
-    assert_eq!(begin.replay.written, PRINTED_LINE);
+    assert_eq!(
+        (longest.len(), replay.written),
+        (PRINTED_LINE, PRINTED_LINE)
+    );
     assert_eq!(out[..PRINTED_LINE], longest[..]);
     assert!(out[PRINTED_LINE..].iter().all(|byte| *byte == 7));
 }
