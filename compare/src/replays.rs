@@ -21,7 +21,12 @@ pub struct Begin {
 impl Begin {
     /// A replay that has not begun, on 65,536 zero bytes.
     pub fn fresh() -> Begin {
-        let (memory, store) = (vec![0; MEMORY_BYTES], vec![0; STORE_BYTES]);
+        Begin::of(MEMORY_BYTES)
+    }
+
+    /// A replay that has not begun, on so many zero bytes.
+    pub fn of(bytes: usize) -> Begin {
+        let (memory, store) = (vec![0; bytes], vec![0; STORE_BYTES]);
         let replay = Replay::start(&memory, &store).expect("a served start");
         Begin {
             replay,

@@ -64,8 +64,8 @@ fn other_replays(rng: &mut Rng, text: &[u8], printed: &[u8], name: &str) {
     assert!(streamed == printed, "{name}: the second model's stream");
 }
 
-/// A start as the paper has it, or now and then one that lends what does not fit, has a state that is not
-/// sound, counts up to the limit, or is behind many lines.
+/// A start as the paper has it, or now and then one with a memory of another length, or one that lends
+/// what does not fit, has a state that is not sound, counts up to the limit, or is behind many lines.
 fn begin(rng: &mut Rng) -> (Begin, String) {
     let mut begin = Begin::fresh();
     let state = &mut begin.replay.state;
@@ -94,6 +94,10 @@ fn begin(rng: &mut Rng) -> (Begin, String) {
             let most = i64::MAX as u64 - 100_000;
             begin.replay.lines = rng.pick(&[98, 9_998, 999_999_999, u32::MAX as u64 - 5, most]);
             "many lines before"
+        }
+        11..=12 => {
+            begin = Begin::of(rng.pick(&[0, 32, 0x4000, 0x10020, 0x20000, 1 << 20]));
+            "memory of another length"
         }
         _ => FRESH,
     };
