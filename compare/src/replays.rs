@@ -516,12 +516,12 @@ fn report(name: String, begin: &Begin, text: &[u8], cuts: &Cuts) -> ! {
     let r = &begin.replay;
     let shown = &text[..text.len().min(4_000)];
     panic!(
-        "{name}\n{what}\n{cuts:?}\nbegins with lines {}, stopped {}, held {:?}, waiting {:?}\n\
+        "{name}\n{what}\n{cuts:?}\nbegins with lines {}, stopped {}, held \"{}\", waiting \"{}\"\n\
          calls, with what each takes and writes:\n  {calls}\ntext of {} bytes: \"{}\"",
         r.lines,
         r.stopped,
-        r.begun[..r.held].escape_ascii().to_string(),
-        r.pending[..r.waiting].escape_ascii().to_string(),
+        r.begun[..r.held].escape_ascii(),
+        r.pending[..r.waiting].escape_ascii(),
         text.len(),
         shown.escape_ascii()
     );
