@@ -4,6 +4,7 @@
 mod calls;
 mod earlier;
 mod measure;
+mod replay;
 mod soundness;
 
 use earlier::Earlier;
@@ -12,7 +13,8 @@ use measure::{measure, Line, Measured};
 const ROUNDS: usize = 1000;
 
 const HOW: &str = "\
-use: cargo run --release --offline [-- ROUNDS [EARLIER.so]]
+use: cargo run --release --offline [-- [replay] ROUNDS [EARLIER.so]]
+  replay      only the replay of traces is measured
   ROUNDS      how often each side is measured, at least 1; 1000 if left out
   EARLIER.so  a shared object of an earlier library, which is measured too
 tools/library writes the library that is measured. A static library becomes a shared object by
@@ -30,13 +32,28 @@ soundness: the test of refusal 3 on one sound state again and again, 512 lines, 
   half empty: as random, every second line empty; the library tests empty lines in a pass of their own";
 
 fn main() {
-    let (rounds, earlier) = match asked(std::env::args().skip(1)) {
+    let mut arguments = std::env::args().skip(1).peekable();
+    let replays_alone = arguments.next_if(|first| first == "replay").is_some();
+    let (rounds, earlier) = match asked(arguments) {
         Ok(asked) => asked,
         Err(wrong) => {
             eprintln!("{wrong}{HOW}");
             std::process::exit(2);
         }
     };
+    if !replays_alone {
+        calls(rounds, earlier);
+    }
+    println!("{}", replay::WHAT);
+    println!("{rounds} rounds, each side in turn\n");
+    if let Err(problem) = replay::print_rows(rounds) {
+        eprintln!("replay: {problem}");
+        std::process::exit(1);
+    }
+}
+
+/// Prints the table of the soundness test and of calls.
+fn calls(rounds: usize, earlier: Option<Earlier>) {
     let mut lines: Vec<Line> = Vec::new();
     lines.extend(soundness::lines(earlier));
     lines.extend(calls::lines(earlier));
@@ -54,6 +71,7 @@ fn main() {
         let measured = measure(line, rounds);
         println!("{}", row(&line.name, &measured, earlier.is_some()));
     }
+    println!();
 }
 
 /// A row of the table, with the columns of an earlier library where one is named.

@@ -73,19 +73,31 @@ pub fn measure(line: &mut Line, rounds: usize) -> Measured {
     if n == 3 {
         turns[2] = turns[0];
     }
+    let mut taken = in_turn(sides, &turns, line.calls, rounds).into_iter();
+    Measured {
+        library: taken.next().expect("a library"),
+        model: taken.next().expect("a model"),
+        earlier: taken.next(),
+    }
+}
+
+/// Measures any sides whose turns make so many calls.
+pub fn measure_sides(mut sides: Vec<&mut Side>, calls: usize, rounds: usize) -> Vec<Times> {
+    let turns: Vec<_> = sides.iter_mut().map(|side| turns_a_round(side)).collect();
+    in_turn(sides, &turns, calls, rounds)
+}
+
+/// One round of each side after the other; a round of a side takes its number of turns.
+fn in_turn(mut sides: Vec<&mut Side>, turns: &[usize], calls: usize, rounds: usize) -> Vec<Times> {
+    let n = sides.len();
     let mut taken = vec![Vec::with_capacity(rounds); n];
     for round in 0..rounds {
         for i in (0..n).map(|i| (round + i) % n) {
             taken[i].push(round_of(sides[i], turns[i]));
         }
     }
-    let calls = line.calls as f64;
-    let mut taken = taken.into_iter().map(|turns| times(turns, calls));
-    Measured {
-        library: taken.next().expect("a library"),
-        model: taken.next().expect("a model"),
-        earlier: taken.next(),
-    }
+    let taken = taken.into_iter();
+    taken.map(|turns| times(turns, calls as f64)).collect()
 }
 
 /// How many turns take as long as a round, after some that warm up.

@@ -4,6 +4,7 @@
 pub mod damage;
 pub mod full;
 pub mod packed;
+pub mod replays;
 pub mod side_by_side;
 
 pub use sa110::{plain_run, right, walk, PlainRan, NO_CALL};

@@ -12,7 +12,8 @@
 //! | A look | `library` |
 //! | Rules for a run, the plain machine | `plain`, `rules`, `term3` |
 //!
-//! `library` holds the entry points: `start`, `call`, `run`, `look`.
+//! `library` holds the entry points: `start`, `call`, `run`, `look`. `replay` replays traces kept as text
+//! (document 02, One).
 //! `random` makes runs and states; `coverage` counts what happened in them.
 
 pub mod access;
@@ -28,6 +29,7 @@ pub mod plain;
 pub mod random;
 pub mod refusals;
 pub mod registers;
+pub mod replay;
 pub mod rights;
 pub mod rules;
 pub mod soundness;

@@ -16,6 +16,12 @@ pub const LINES: usize = 512;
 pub const BUFFER_ENTRIES: usize = 8;
 /// Numbers per call.
 pub const FIELDS: usize = 5;
+/// The longest line of a trace as text, with the line feed that ends it.
+pub const TRACE_LINE: usize = 64;
+/// The longest printed line.
+pub const PRINTED_LINE: usize = 34;
+/// The memory's length in which `replay` replays a text.
+pub const REPLAY_MEMORY: usize = 65_536;
 
 /// A call: kind, privileged (1 or 0), width or register, address or pair, value.
 pub type Numbers = [u32; FIELDS];
@@ -93,6 +99,8 @@ pub const REFUSED_REGISTER: u32 = 9;
 pub const REFUSED_OPERATION: u32 = 10;
 pub const REFUSED_BIG_ENDIAN: u32 = 11;
 pub const REFUSED_CONTROL: u32 = 12;
+/// A line of a trace as text departs from the form.
+pub const REFUSED_LINE: u32 = 13;
 
 /// The answer to five numbers that are no call.
 pub const NO_CALL: u64 = 3 << 32;
@@ -214,6 +222,29 @@ pub struct PlainRan {
     pub made: usize,
 }
 
+/// A replay of a trace kept as text: a machine, and what a text cut anywhere leaves between two parts.
+#[repr(C)]
+#[derive(Clone, Debug, PartialEq, Eq)]
+pub struct Replay {
+    pub state: State,
+    pub cp15: Cp15,
+    /// Lines replayed.
+    pub lines: u64,
+    /// Bytes of a line that has begun and not ended, at the front of `begun`; 0 to 63, no line feed
+    /// among them.
+    pub held: usize,
+    /// Bytes printed that no slice had room for, at the front of `pending`; 0 to 40.
+    pub waiting: usize,
+    /// Not 0 behind a malformed line.
+    pub stopped: u32,
+    pub begun: [u8; TRACE_LINE],
+    pub pending: [u8; 40],
+    /// What the last part took of its text.
+    pub taken: usize,
+    /// What the last part wrote into its slice.
+    pub written: usize,
+}
+
 // The layout that include/sa110.h states.
 const _: () = {
     assert!(size_of::<Cp15>() == 24 && size_of::<Counts>() == 20);
@@ -222,6 +253,11 @@ const _: () = {
     assert!(offset_of!(State, pointers) == 4392 && offset_of!(State, words) == 4456);
     assert!(offset_of!(State, bytes) == 4520);
     assert!(size_of::<PlainRan>() == 40 && offset_of!(PlainRan, made) == 32);
+    assert!(size_of::<Replay>() == 4824 && offset_of!(Replay, cp15) == 4648);
+    assert!(offset_of!(Replay, lines) == 4672 && offset_of!(Replay, held) == 4680);
+    assert!(offset_of!(Replay, waiting) == 4688 && offset_of!(Replay, stopped) == 4696);
+    assert!(offset_of!(Replay, begun) == 4700 && offset_of!(Replay, pending) == 4764);
+    assert!(offset_of!(Replay, taken) == 4808 && offset_of!(Replay, written) == 4816);
 };
 
 extern "C" {
@@ -278,6 +314,18 @@ extern "C" {
         answers: *mut u64,
         answers_length: usize,
     ) -> PlainRan;
+    fn sa110_replay(
+        replay: *mut Replay,
+        memory: *mut u8,
+        memory_length: usize,
+        store: *mut u8,
+        store_length: usize,
+        text: *const u8,
+        text_length: usize,
+        ends: u32,
+        out: *mut u8,
+        out_length: usize,
+    ) -> u32;
 }
 
 impl Machine {
@@ -415,4 +463,74 @@ pub fn plain_run(memory: &mut [u8], calls: &[u32], answers: &mut [u64]) -> Plain
             answers.len(),
         )
     }
+}
+
+impl Replay {
+    /// A replay that has not begun, on a start's state and record; or the start's refusal, 1 or 2.
+    pub fn start(memory: &[u8], store: &[u8]) -> Result<Box<Replay>, u32> {
+        let (Machine { state, cp15 }, refusal) = Machine::start(memory, store);
+        if refusal != 0 {
+            return Err(refusal);
+        }
+        Ok(Box::new(Replay {
+            state,
+            cp15,
+            lines: 0,
+            held: 0,
+            waiting: 0,
+            stopped: 0,
+            begun: [0; TRACE_LINE],
+            pending: [0; 40],
+            taken: 0,
+            written: 0,
+        }))
+    }
+
+    /// Replays of a part of a text what one call replays; `taken` and `written` tell how much. It is called
+    /// until all of the part is taken and nothing was written into a slice that is not empty. The text ends
+    /// with the part where `ends` says so. Gives 0, or 3 where the fields behind the record are not ones
+    /// that a call leaves; then nothing has changed but that `taken` and `written` are 0.
+    #[inline]
+    pub fn part(
+        &mut self,
+        memory: &mut [u8],
+        store: &mut [u8],
+        text: &[u8],
+        ends: bool,
+        out: &mut [u8],
+    ) -> u32 {
+        unsafe {
+            sa110_replay(
+                self,
+                memory.as_mut_ptr(),
+                memory.len(),
+                store.as_mut_ptr(),
+                store.len(),
+                text.as_ptr(),
+                text.len(),
+                ends.into(),
+                out.as_mut_ptr(),
+                out.len(),
+            )
+        }
+    }
+}
+
+/// Replays a whole text on 65,536 zero bytes; gives what is printed.
+pub fn replay(text: &[u8]) -> Vec<u8> {
+    let (mut memory, mut store) = (vec![0; REPLAY_MEMORY], vec![0; STORE_BYTES]);
+    let mut printed = Vec::new();
+    let Ok(mut replay) = Replay::start(&memory, &store) else {
+        return printed; // both lengths are served
+    };
+    let mut out = vec![0; 1024 * PRINTED_LINE];
+    let mut rest = text;
+    while replay.part(&mut memory, &mut store, rest, true, &mut out) == 0 {
+        printed.extend(out.iter().take(replay.written));
+        rest = rest.get(replay.taken..).unwrap_or_default();
+        if rest.is_empty() && replay.written == 0 {
+            break;
+        }
+    }
+    printed
 }

@@ -2,10 +2,11 @@
 
 use super::proposals::Proposer;
 use super::rng::Rng;
-use super::world::{world, World};
+use super::world::{world, world_of, World};
 use crate::calls::Call;
 use crate::rules::{Monitor, Part, Rules};
 use crate::term3::Run;
+use crate::words;
 
 /// A guided run, and how many proposals the rules turned down.
 pub struct Guided {
@@ -17,12 +18,30 @@ pub struct Guided {
 /// its virtual line and drains. `rules` may have a part left out.
 pub fn guided(rng: &mut Rng, length: usize, rules: Rules) -> Guided {
     let world = world(rng);
+    guided_in(rng, world, &[], length, rules)
+}
+
+/// As `guided`, on so many zero bytes of memory and a store of zeros: the first calls store a world's
+/// descriptors, with translation off, then clean, drain and flush.
+pub fn guided_from_zeros(rng: &mut Rng, bytes: usize, length: usize, rules: Rules) -> Guided {
+    let (world, mut first) = zero_world(rng, bytes);
+    let mut lines: Vec<_> = world.descriptors.iter().map(|at| at / 32).collect();
+    lines.sort_unstable();
+    lines.dedup();
+    first.extend(lines.iter().map(|line| Call::clean_line(line * 32)));
+    first.extend([Call::drain(), Call::flush_tlb(), Call::flush_dcache()]);
+    guided_in(rng, world, &first, length, rules)
+}
+
+/// A guided run in a world: the first calls, then up to `length` more.
+fn guided_in(rng: &mut Rng, world: World, first: &[Call], length: usize, rules: Rules) -> Guided {
     let mut monitor = Monitor::start(world.memory.clone(), rules);
     let mut proposer = Proposer::new(rng, &world);
+    proposer.queue.extend(first);
     proposer.opening(rng);
-    let mut calls = Vec::with_capacity(length + 64);
+    let mut calls = Vec::with_capacity(first.len() + length + 64);
     let mut turned_down = 0;
-    for _ in 0..length {
+    for _ in 0..first.len() + length {
         let call = proposer.next(rng);
         match monitor.propose(&call) {
             Ok(deed) => {
@@ -101,12 +120,41 @@ fn settle(monitor: &mut Monitor, calls: &mut Vec<Call>) {
 /// A random run of `length` calls that ignores the rules.
 pub fn free(rng: &mut Rng, length: usize) -> Run {
     let world = world(rng);
+    free_in(rng, world, &[], length)
+}
+
+/// As `free`, on so many zero bytes of memory and a store of zeros: the first calls store a world's
+/// descriptors, with translation off.
+pub fn free_from_zeros(rng: &mut Rng, bytes: usize, length: usize) -> Run {
+    let (world, first) = zero_world(rng, bytes);
+    free_in(rng, world, &first, length)
+}
+
+fn free_in(rng: &mut Rng, world: World, first: &[Call], length: usize) -> Run {
     let mut proposer = Proposer::new(rng, &world);
+    proposer.queue.extend(first);
     proposer.opening(rng);
-    let calls = (0..length).map(|_| proposer.next(rng)).collect();
+    let calls = (0..first.len() + length)
+        .map(|_| proposer.next(rng))
+        .collect();
+    let World { memory, store, .. } = world;
     Run {
+        memory,
+        store,
         calls,
-        memory: world.memory.clone(),
-        store: world.store.clone(),
     }
+}
+
+/// A world whose memory and store are zero yet, and the stores that write its descriptors.
+fn zero_world(rng: &mut Rng, bytes: usize) -> (World, Vec<Call>) {
+    let mut world = world_of(rng, bytes);
+    let mut places = world.descriptors.clone();
+    places.sort_unstable();
+    places.dedup();
+    let word = |at: u32| words::read(&world.memory, at as usize, 4);
+    let stores = places.iter().map(|at| Call::store(4, *at, word(*at)));
+    let stores = stores.collect();
+    world.memory.fill(0);
+    world.store.fill(0);
+    (world, stores)
 }

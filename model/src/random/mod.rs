@@ -5,6 +5,7 @@ pub mod guided;
 pub mod proposals;
 pub mod rng;
 pub mod states;
+pub mod texts;
 pub mod world;
 
 pub use rng::Rng;
