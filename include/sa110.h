@@ -5,7 +5,7 @@
  *
  * Link with libsa110.a of target/staticlib, which tools/library writes. The library needs memcpy and memset, allocates nothing, keeps nothing
  * between calls, prints nothing and never aborts: every error is an answer. Different states may be used on different threads at the same time. A
- * call takes up to 40 KB of stack.
+ * call takes up to 40 KB of stack, one of sa110_replay up to 100 KB.
  *
  * A slice is a pointer and a length in elements. A pointer must be aligned for its type, must not be null even where the length is 0, and must
  * point to that many elements. What a call may change must not overlap anything else that is lent to that call. These are the only demands: any
@@ -102,7 +102,7 @@ struct sa110_plain_ran {
 struct sa110_replay {
     struct sa110_state state;
     struct sa110_cp15 cp15;
-    uint64_t lines;      /* lines replayed */
+    uint64_t lines;      /* lines replayed, a malformed one too */
     size_t held;         /* bytes of a line that has begun and not ended, at the front of `begun`; 0 to 63, no line feed among them */
     size_t waiting;      /* bytes printed that no slice had room for, at the front of `pending`; 0 to 40 */
     uint32_t stopped;    /* not 0 behind a malformed line */
@@ -343,8 +343,8 @@ uint32_t sa110_replay(struct sa110_replay *replay, uint8_t *memory, size_t memor
 /* Makes a list of calls, in the form of sa110_run, on the plain machine: memory and the five registers, all zero at the start, without TLB,
  * Dcache and write buffer. Stores are in memory at once; writes of registers 7 and 8 do nothing. For a list that keeps document 01's rules R1 to
  * R6 the answers are those of sa110_run after a served start on the same bytes, and once each line stored to was cleaned after its last store, with a
- * drain after that, so is memory, byte for byte: this is proved (term 3). Whether a list keeps the rules, compare's program counts tells, by the second model, which is tested and not proved. A memory
- * whose length does not fit gives refusal 1, with no call made. */
+ * drain after that, so is memory, byte for byte: this is proved (term 3). Whether a list keeps the rules, compare's program counts tells, by the second
+ * model, which is tested and not proved. A memory whose length does not fit gives refusal 1, with no call made. */
 struct sa110_plain_ran sa110_plain_run(uint8_t *memory, size_t memory_length, const uint32_t *calls, size_t calls_length, uint64_t *answers,
                                        size_t answers_length);
 
