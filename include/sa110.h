@@ -102,7 +102,7 @@ struct sa110_plain_ran {
 struct sa110_replay {
     struct sa110_state state;
     struct sa110_cp15 cp15;
-    uint64_t lines;      /* lines replayed, a malformed one too */
+    uint64_t lines;      /* lines replayed, a malformed one too; 0 to 2^63 - 1 */
     size_t held;         /* bytes of a line that has begun and not ended, at the front of `begun`; 0 to 63, no line feed among them */
     size_t waiting;      /* bytes printed that no slice had room for, at the front of `pending`; 0 to 40 */
     uint32_t stopped;    /* not 0 behind a malformed line */
@@ -320,12 +320,12 @@ uint32_t sa110_sound(const struct sa110_state *state, const struct sa110_cp15 *c
  * A part may end anywhere, also inside a line or a number. `ends` is not 0 where the input ends with this part, and then only: a line that has begun
  * is malformed then. The slice `out` may have any length. What is printed does not depend on the parts and slices.
  *
- * Gives 0, or 3 where the replay's own fields are not ones that a call leaves (lines above 2^63 - 1, held above 63, waiting above 40, or a line feed
- * among the first `held` bytes of `begun`); then nothing has changed but that taken and written are 0. State, record, memory and cache store are
- * tested by each line's call, whose refusal is printed. Else one call does one of these, the first that applies: it writes what waits; it takes all
- * of the text behind a malformed line and writes nothing; it replays lines, at most 1,024 and at most one in SA110_PRINTED_LINE bytes of `out`, but
- * one line alone where a line has begun or `out` has fewer bytes than that. So a caller goes on until all of the part is taken and nothing was
- * written, with a slice of at least one byte:
+ * Gives 0, or 3 where the replay's own fields are outside their ranges: lines above 2^63 - 1, held above 63, waiting above 40, or a line feed among
+ * the first `held` bytes of `begun`; then nothing has changed but that taken and written are 0. State, record, memory and cache store are tested by
+ * each line's call, whose refusal is printed. Else one call does one of these, the first that applies: it writes what waits; it takes all of the text
+ * behind a malformed line and writes nothing; it replays lines, at most 1,024 and at most one in SA110_PRINTED_LINE bytes of `out`, but one line
+ * alone where a line has begun or `out` has fewer bytes than that. So a caller goes on until all of the part is taken and nothing was written, with
+ * a slice of at least one byte:
  *
  *     at = 0;
  *     do {

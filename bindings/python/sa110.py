@@ -11,7 +11,7 @@
 include/sa110.h says what each function of the library does; document 01 is the authority on every meaning. What the library refuses is an answer. A
 ValueError is raised for numbers that do not fit into 32 bits and for a memory and a cache store that are one bytearray, a TypeError for arguments of another
 type (memory is a length, or a bytearray, whose bytes the calls change; anything else that has bytes is copied), and an OSError where the shared
-object is missing. A replay raises a ValueError where it is fed behind its end, and where its struct was changed to what no call leaves.
+object is missing. A replay raises a ValueError where it is fed behind its end, and where its struct's fields are outside their ranges.
 """
 
 import ctypes
@@ -435,7 +435,7 @@ class Replay:
             rest = (c_uint8 * 0).from_buffer(lent, at), len(text) - at
             slices = *_bytes(self.memory), *_bytes(self.cache_store), *rest
             if _lib().sa110_replay(byref(self.struct), *slices, ends, self.room, len(self.room)) != 0:
-                raise ValueError("sa110: the replay's fields are not ones that a call leaves")
+                raise ValueError("sa110: the replay's fields are outside their ranges")
             printed += memoryview(self.room)[: self.struct.written]
             at += self.struct.taken
             if at == len(text) and self.struct.written == 0:
