@@ -1,7 +1,8 @@
-/* Damaged input from C: random and damaged states, wrong lengths, numbers that are no call.
+/* Damaged input from C: random and damaged states and replays, wrong lengths, numbers that are no call, malformed texts.
  * Each lent thing lies against a page that cannot be read or written, or in a block of its own from malloc for valgrind to watch, so that an
  * access outside ends the program. Checked are: a start writes the whole state and record; the answer is one of document 01's; a refused call, a
- * look and a soundness test change nothing; a state that was sound stays so; a run of the list answers and leaves the same. */
+ * look and a soundness test change nothing; a state that was sound stays so; a run of the list answers and leaves the same. A replay that is refused
+ * changes nothing but its last two fields; any other prints and leaves what a call for each line gives, in parts and slices of any length. */
 #define _GNU_SOURCE
 #include "sa110.h"
 #include <stdio.h>
@@ -334,6 +335,229 @@ static void one_case(void) {
     drop(&r);
 }
 
+#define LINES 12       /* of a text */
+#define LONGEST 120    /* bytes of a line of a text, or of what a line prints */
+
+static uint64_t replays, replays_refused, replayed, malformed;
+
+static struct sa110_replay *replay_of(struct block *b) { return (struct sa110_replay *)b->at; }
+
+/* Whether a replay's own fields are in their ranges. */
+static int in_range(const struct sa110_replay *r) {
+    return r->lines <= INT64_MAX && r->held <= 63 && r->waiting <= 40 && memchr(r->begun, '\n', r->held) == NULL;
+}
+
+/* Whether two replays are the same but for taken and written; bytes that belong to no field may differ. */
+static int same_replay(const struct sa110_replay *a, const struct sa110_replay *b) {
+    size_t from = offsetof(struct sa110_replay, cp15), to = offsetof(struct sa110_replay, pending) + sizeof a->pending;
+    return sa110_same_state(&a->state, &b->state) && memcmp((const char *)a + from, (const char *)b + from, to - from) == 0;
+}
+
+/* Writes a line of a text, mostly a call; now and then it departs from the form. */
+static size_t some_line(uint8_t *at) {
+    static const char *const others[] = {"", "0", "0,1,4,0", "0,1,4,0,0,0", "0,1,4,0,4294967296", "5,1,4,0,0", "0,2,4,0,0", "0,1,4,,0", "0,1,4,0,-1",
+                                         " 0,1,4,0,0", "0,1,4,0,0\r", "0,1,4,0,", ",1,4,0,0"};
+    uint32_t c[SA110_FIELDS];
+    size_t i, n = 0;
+    numbers(c);
+    if (chance(40)) {
+        n = (size_t)sprintf((char *)at, "%s", others[below(sizeof others / sizeof *others)]);
+    } else {
+        n = (size_t)sprintf((char *)at, "%u,%u,%0*u,%u,%0*u", c[0], c[1], chance(8) ? 20 : 1, c[2], c[3], chance(8) ? (int)below(60) : 1, c[4]);
+    }
+    for (i = 0; i < n && chance(60); i++) {
+        at[below((uint32_t)n)] = (uint8_t)any();
+    }
+    at[n] = '\n';
+    return n + !chance(60);
+}
+
+/* The number of the field at *at, and behind it; gives 0 where there is no such field. */
+static int field(const uint8_t **at, const uint8_t *end, uint32_t *number) {
+    const uint8_t *p = *at;
+    uint64_t n = 0;
+    while (p < end && *p >= '0' && *p <= '9' && n <= UINT32_MAX) {
+        n = n * 10 + (uint64_t)(*p++ - '0');
+    }
+    if (p == *at || n > UINT32_MAX) {
+        return 0;
+    }
+    *at = p;
+    *number = (uint32_t)n;
+    return 1;
+}
+
+/* The five numbers of a line, which its line feed follows; gives 0 where it departs from the form. */
+static int fields(const uint8_t *at, const uint8_t *end, uint32_t *c) {
+    size_t i;
+    for (i = 0; i < SA110_FIELDS; i++) {
+        if ((i > 0 && (at == end || *at++ != ',')) || !field(&at, end, c + i)) {
+            return 0;
+        }
+    }
+    return at == end && c[0] <= 4 && c[1] <= 1;
+}
+
+/* Writes what a line prints. */
+static size_t print_line(char *out, uint64_t line, uint32_t kind, uint32_t value, int is_signed) {
+    int64_t number = is_signed ? (int64_t)(int32_t)value : (int64_t)value;
+    return (size_t)sprintf(out, "%llu,%u,%lld\n", (unsigned long long)line, kind, (long long)number);
+}
+
+/* Makes the calls of a text that ends, and writes what a replay is to print behind a number of lines. */
+static size_t expect(struct machine *m, uint64_t line, const uint8_t *text, size_t length, char *out) {
+    const uint8_t *stop = text + length;
+    uint32_t c[SA110_FIELDS];
+    size_t n = 0;
+    while (text < stop) {
+        const uint8_t *end = memchr(text, '\n', (size_t)(stop - text));
+        line++;
+        if (end == NULL || end - text >= (ptrdiff_t)SA110_TRACE_LINE || !fields(text, end, c)) {
+            malformed++;
+            return n + print_line(out + n, line, SA110_REFUSED, SA110_REFUSED_LINE, 0);
+        }
+        uint64_t a = sa110_call(state(m), cp15(m), m->memory.at, m->memory.length, m->store.at, m->store.length, c[0], c[1], c[2], c[3], c[4]);
+        n += print_line(out + n, line, sa110_kind(a), sa110_value(a), c[0] == SA110_SIGNED_LOAD && sa110_kind(a) == SA110_SERVED);
+        replayed++;
+        text = end + 1;
+    }
+    return n;
+}
+
+/* A replay that goes on from a machine: lines, a line begun, whose bytes lie at the front of a text, bytes that wait, sometimes stopped. */
+static struct block some_replay(struct machine *m, const uint8_t *text, size_t length) {
+    struct block b = lend(sizeof(struct sa110_replay));
+    struct sa110_replay *r = replay_of(&b);
+    size_t begun = chance(2) ? 0 : below(12);
+    memset(r, 0x99, sizeof *r);
+    r->state = *state(m);
+    r->cp15 = *cp15(m);
+    r->lines = chance(2) ? below(100) : any() >> below(48);
+    r->held = begun > length || memchr(text, '\n', begun) != NULL ? 0 : begun;
+    memcpy(r->begun, text, r->held);
+    r->waiting = chance(2) ? 0 : below(41);
+    r->stopped = chance(10) ? word() : 0;
+    return b;
+}
+
+/* Damages a replay: one field, or all of it. */
+static void damage_replay(struct sa110_replay *r) {
+    size_t i;
+    switch (below(12)) {
+    case 0:
+        r->lines = chance(2) ? (uint64_t)INT64_MAX + 1 + below(2) : chance(2) ? UINT64_MAX : INT64_MAX - LINES - 1;
+        break;
+    case 1:
+        r->held = chance(2) ? 62 + below(4) : (size_t)any() << below(40);
+        break;
+    case 2:
+        r->waiting = chance(2) ? 39 + below(4) : (size_t)any() << below(40);
+        break;
+    case 3:
+        r->begun[below(64)] = '\n';
+        break;
+    case 4:
+        for (i = 0; i < sizeof *r; i++) {
+            ((uint8_t *)r)[i] = (uint8_t)any();
+        }
+        break;
+    case 5:
+        memset(r, chance(2) ? 0xFF : 0, sizeof *r);
+        break;
+    default: /* none */
+        break;
+    }
+}
+
+/* Makes one call of a replay and checks what holds of every call; gives what it wrote, which is put at `printed`. */
+static size_t one_part(struct block *replay, struct machine *m, const uint8_t *text, size_t length, uint32_t ends, uint8_t *printed) {
+    struct block given = lend(length), out = lend(chance(6) ? 0 : below(chance(2) ? 40 : 200)), before = copy_of(replay);
+    struct sa110_replay *r = replay_of(replay);
+    size_t i, written;
+    memcpy(given.at, text, length);
+    memset(out.at, 0x77, out.length);
+    uint32_t answer = sa110_replay(r, m->memory.at, m->memory.length, m->store.at, m->store.length, given.at, length, ends, out.at, out.length);
+    written = r->written;
+    if (answer != (in_range(replay_of(&before)) ? 0 : SA110_REFUSED_STATE) || r->taken > length || written > out.length) {
+        fail("a replay answers, takes or writes something else");
+    }
+    if (memcmp(given.at, text, length) != 0) {
+        fail("a replay changes its text");
+    }
+    for (i = written; i < out.length; i++) {
+        if (out.at[i] != 0x77) {
+            fail("a replay writes behind what it prints");
+        }
+    }
+    if (answer != 0 && (r->taken != 0 || written != 0 || !same_replay(r, replay_of(&before)))) {
+        fail("a refused replay changes something");
+    }
+    memcpy(printed, out.at, written);
+    replays++;
+    replays_refused += answer != 0;
+    written += out.length == 0 && r->waiting > 0; /* what waits is still to be written */
+    give_back(&given);
+    give_back(&out);
+    give_back(&before);
+    return written;
+}
+
+/* Replays a text in parts of any length and gives how many bytes it printed. */
+static size_t in_parts(struct block *replay, struct machine *m, const uint8_t *text, size_t length, uint8_t *printed) {
+    struct sa110_replay *r = replay_of(replay);
+    size_t at = 0, end = 0, n = 0, calls = 0, more;
+    do {
+        end = chance(4) ? length : at + below((uint32_t)(length - at) + 1);
+        do {
+            more = one_part(replay, m, text + at, end - at, end == length, printed + n);
+            n += r->written;
+            at += r->taken;
+            if (calls++ > 10000) {
+                fail("a replay does not come to its end");
+            }
+        } while (at < end || more > 0);
+    } while (end < length);
+    return n;
+}
+
+static void one_replay(void) {
+    static uint8_t all[(LINES + 1) * LONGEST], whole[sizeof all + 64], printed[(LINES + 2) * LONGEST];
+    static char expected[sizeof printed];
+    struct machine m = some_machine(), before;
+    size_t length = 0, n = 0, i, lines = chance(8) ? 0 : below(LINES);
+    for (i = 0; i < lines; i++) {
+        length += some_line(all + length);
+    }
+    damage(&m);
+    struct block b = some_replay(&m, all, length);
+    struct sa110_replay *r = replay_of(&b);
+    const uint8_t *text = all + r->held;
+    length -= r->held;
+    damage_replay(r);
+    memcpy(m.state.at, &r->state, sizeof r->state);
+    memcpy(m.cp15.at, &r->cp15, sizeof r->cp15);
+    before = machine_of(&m);
+    if (!in_range(r)) {
+        one_part(&b, &m, text, length, chance(2), printed);
+    } else {
+        memcpy(expected, r->pending, n = r->waiting);
+        memcpy(whole, r->begun, r->held);
+        memcpy(whole + r->held, text, length);
+        n += r->stopped ? 0 : expect(&before, r->lines, whole, r->held + length, expected + n);
+        if (in_parts(&b, &m, text, length, printed) != n || memcmp(printed, expected, n) != 0) {
+            fail("a replay prints something else than its calls give");
+        }
+    }
+    memcpy(m.state.at, &r->state, sizeof r->state);
+    memcpy(m.cp15.at, &r->cp15, sizeof r->cp15);
+    if (!same(&m, &before)) {
+        fail("a replay leaves something else than its calls");
+    }
+    give_back(&b);
+    drop(&m);
+    drop(&before);
+}
+
 int main(int argc, char **argv) {
     uint64_t cases = 0, i;
     char *end = NULL;
@@ -350,6 +574,7 @@ int main(int argc, char **argv) {
     }
     for (i = 0; i < cases; i++) {
         one_case();
+        one_replay();
     }
     printf("cases %llu, served %llu, no call %llu\nrefused by 1 to 12:", (unsigned long long)cases, (unsigned long long)served,
            (unsigned long long)none);
@@ -367,8 +592,11 @@ int main(int argc, char **argv) {
     printf("\nlooks nowhere, in the cache store, in memory: %llu %llu %llu\n", (unsigned long long)looks[0], (unsigned long long)looks[1],
            (unsigned long long)looks[2]);
     missing += looks[0] == 0 || looks[1] == 0 || looks[2] == 0;
+    printf("calls of a replay %llu, refused by 3 %llu, lines %llu, malformed ones %llu\n", (unsigned long long)replays,
+           (unsigned long long)replays_refused, (unsigned long long)replayed, (unsigned long long)malformed);
+    missing += replays_refused == 0 || malformed == 0;
     if (missing > 0 && cases >= 2000) {
-        fail("not every refusal, status and look was met");
+        fail("not every refusal, status, look and end of a replay was met");
     }
     printf("damaged: ok\n");
     return 0;

@@ -5,7 +5,7 @@
  *
  * Link with libsa110.a of target/staticlib, which tools/library writes. The library needs memcpy and memset, allocates nothing, keeps nothing
  * between calls, prints nothing and never aborts: every error is an answer. Different states may be used on different threads at the same time. A
- * call takes up to 40 KB of stack.
+ * call takes up to 40 KB of stack, one of sa110_replay up to 100 KB.
  *
  * A slice is a pointer and a length in elements. A pointer must be aligned for its type, must not be null even where the length is 0, and must
  * point to that many elements. What a call may change must not overlap anything else that is lent to that call. These are the only demands: any
@@ -39,6 +39,8 @@ extern "C" {
 #define SA110_BUFFER_ENTRIES 8u
 #define SA110_RIGHTS 256u          /* entries of the rights table */
 #define SA110_FIELDS 5u            /* numbers per call */
+#define SA110_TRACE_LINE 64u       /* the longest line of a trace as text, with the line feed that ends it */
+#define SA110_PRINTED_LINE 34u     /* the longest line that a replay prints, with its line feed */
 
 /* ---- Structs ---- */
 
@@ -96,6 +98,20 @@ struct sa110_plain_ran {
     size_t made;      /* calls made */
 };
 
+/* A replay of a trace kept as text. With state and record as sa110_start makes them and all else zeros it has not begun. */
+struct sa110_replay {
+    struct sa110_state state;
+    struct sa110_cp15 cp15;
+    uint64_t lines;      /* lines replayed, a malformed one too; 0 to 2^63 - 1 */
+    size_t held;         /* bytes of a line that has begun and not ended, at the front of `begun`; 0 to 63, no line feed among them */
+    size_t waiting;      /* bytes printed that no slice had room for, at the front of `pending`; 0 to 40 */
+    uint32_t stopped;    /* not 0 behind a malformed line */
+    uint8_t begun[64];
+    uint8_t pending[40];
+    size_t taken;        /* what the last call took of its text */
+    size_t written;      /* what the last call wrote into its slice */
+};
+
 SA110_STATIC_ASSERT(sizeof(size_t) == 8 && sizeof(void *) == 8, "the library is built for 64 bits");
 SA110_STATIC_ASSERT(sizeof(struct sa110_registers) == 20, "registers");
 SA110_STATIC_ASSERT(offsetof(struct sa110_registers, far) == 16, "registers.far");
@@ -116,6 +132,17 @@ SA110_STATIC_ASSERT(offsetof(struct sa110_state, slots) == 4520, "state.slots");
 SA110_STATIC_ASSERT(sizeof(struct sa110_plain_ran) == 40, "plain_ran");
 SA110_STATIC_ASSERT(offsetof(struct sa110_plain_ran, refusal) == 24, "plain_ran.refusal");
 SA110_STATIC_ASSERT(offsetof(struct sa110_plain_ran, made) == 32, "plain_ran.made");
+SA110_STATIC_ASSERT(sizeof(struct sa110_replay) == 4824, "replay");
+SA110_STATIC_ASSERT(offsetof(struct sa110_replay, state) == 0, "replay.state");
+SA110_STATIC_ASSERT(offsetof(struct sa110_replay, cp15) == 4648, "replay.cp15");
+SA110_STATIC_ASSERT(offsetof(struct sa110_replay, lines) == 4672, "replay.lines");
+SA110_STATIC_ASSERT(offsetof(struct sa110_replay, held) == 4680, "replay.held");
+SA110_STATIC_ASSERT(offsetof(struct sa110_replay, waiting) == 4688, "replay.waiting");
+SA110_STATIC_ASSERT(offsetof(struct sa110_replay, stopped) == 4696, "replay.stopped");
+SA110_STATIC_ASSERT(offsetof(struct sa110_replay, begun) == 4700, "replay.begun");
+SA110_STATIC_ASSERT(offsetof(struct sa110_replay, pending) == 4764, "replay.pending");
+SA110_STATIC_ASSERT(offsetof(struct sa110_replay, taken) == 4808, "replay.taken");
+SA110_STATIC_ASSERT(offsetof(struct sa110_replay, written) == 4816, "replay.written");
 
 /* Whether two states are the same. The four bytes between counts and used belong to no field and may hold anything, so memcmp of whole states
  * is no comparison. */
@@ -220,8 +247,8 @@ enum {
     SA110_OTHER_PAGE = 10
 };
 
-/* Refusals, in the order in which they are tested. A start meets 1 and 2; an access 1 to 7; a CP15 call 1 to 5 and 8 to 12. Refusal 3 is tested
- * with the memory lent to this call. */
+/* Refusals, 1 to 12 in the order in which they are tested. A start meets 1 and 2; an access 1 to 7; a CP15 call 1 to 5 and 8 to 12. Refusal 3 is
+ * tested with the memory lent to this call. A line of a trace as text meets 13 before all others. */
 enum {
     SA110_REFUSED_MEMORY = 1,      /* the memory's length is not a multiple of 32 or exceeds 16,777,216 */
     SA110_REFUSED_STORE = 2,       /* the cache store is not 16,384 bytes */
@@ -234,7 +261,8 @@ enum {
     SA110_REFUSED_REGISTER = 9,    /* the register cannot be read (other than 0 to 6) or written (other than 1 to 8) */
     SA110_REFUSED_OPERATION = 10,  /* the pair for register 7 or 8 is not listed */
     SA110_REFUSED_BIG_ENDIAN = 11, /* a control write sets bit 7 */
-    SA110_REFUSED_CONTROL = 12     /* a control write gives a combination of M, C and W that is not valid */
+    SA110_REFUSED_CONTROL = 12,    /* a control write gives a combination of M, C and W that is not valid */
+    SA110_REFUSED_LINE = 13        /* a line of a trace as text departs from its form; sa110_replay alone */
 };
 
 /* ---- The library, over a lent state and record ---- */
@@ -279,13 +307,44 @@ static inline const uint8_t *sa110_line(uint64_t look, const uint8_t *memory, co
 /* Tests a state and a record for a memory of n bytes, as refusal 3 does: 1 sound, 0 unsound. Nothing changes. */
 uint32_t sa110_sound(const struct sa110_state *state, const struct sa110_cp15 *cp15, size_t n);
 
+/* ---- Replay of a trace kept as text ---- */
+
+/* Replays a part of a text, on a lent memory and cache store that are as the last part left them.
+ *
+ * A line is a call: five decimal fields, parted by commas, in the order of a call's numbers (kind, privileged, n, a, v), and a line feed. It has at
+ * most SA110_TRACE_LINE bytes with the line feed; a field is one or more digits, and its value at most 4,294,967,295. Ignored fields are tested, too.
+ * Each line prints one: its number from 1, the answer's kind (0 served, 1 fault, 2 refused) and its value, parted by commas, and a line feed. A
+ * negative signed load has a minus sign. A line that departs from the form, has a kind above 4 or privileged above 1, or ends without a line feed is
+ * printed as refused by 13, and the replay stops there: nothing behind it is printed. Any other refusal is printed and the replay goes on.
+ *
+ * A part may end anywhere, also inside a line or a number. `ends` is not 0 where the input ends with this part, and then only: a line that has begun
+ * is malformed then. The slice `out` may have any length. What is printed does not depend on the parts and slices.
+ *
+ * Gives 0, or 3 where the replay's own fields are outside their ranges: lines above 2^63 - 1, held above 63, waiting above 40, or a line feed among
+ * the first `held` bytes of `begun`; then nothing has changed but that taken and written are 0. State, record, memory and cache store are tested by
+ * each line's call, whose refusal is printed. Else one call does one of these, the first that applies: it writes what waits; it takes all of the text
+ * behind a malformed line and writes nothing; it replays lines, at most 1,024 and at most one in SA110_PRINTED_LINE bytes of `out`, but one line
+ * alone where a line has begun or `out` has fewer bytes than that. So a caller goes on until all of the part is taken and nothing was written, with
+ * a slice of at least one byte:
+ *
+ *     at = 0;
+ *     do {
+ *         sa110_replay(&r, memory, memory_length, store, store_length, text + at, n - at, ends, out, room);
+ *         fwrite(out, 1, r.written, stdout);
+ *         at += r.taken;
+ *     } while (at < n || r.written > 0);
+ *
+ * Bytes of `out` behind the first r.written stay as they were. */
+uint32_t sa110_replay(struct sa110_replay *replay, uint8_t *memory, size_t memory_length, uint8_t *store, size_t store_length, const uint8_t *text,
+                      size_t text_length, uint32_t ends, uint8_t *out, size_t out_length);
+
 /* ---- The plain machine ---- */
 
 /* Makes a list of calls, in the form of sa110_run, on the plain machine: memory and the five registers, all zero at the start, without TLB,
  * Dcache and write buffer. Stores are in memory at once; writes of registers 7 and 8 do nothing. For a list that keeps document 01's rules R1 to
  * R6 the answers are those of sa110_run after a served start on the same bytes, and once each line stored to was cleaned after its last store, with a
- * drain after that, so is memory, byte for byte: this is proved (term 3). Whether a list keeps the rules, compare's program counts tells, by the second model, which is tested and not proved. A memory
- * whose length does not fit gives refusal 1, with no call made. */
+ * drain after that, so is memory, byte for byte: this is proved (term 3). Whether a list keeps the rules, compare's program counts tells, by the second
+ * model, which is tested and not proved. A memory whose length does not fit gives refusal 1, with no call made. */
 struct sa110_plain_ran sa110_plain_run(uint8_t *memory, size_t memory_length, const uint32_t *calls, size_t calls_length, uint64_t *answers,
                                        size_t answers_length);
 

@@ -6,11 +6,12 @@
     m.write(sa110.BASE, 0x4000)                 # a CP15 write
     print(m.load(4, 0x4004), m.counts)          # an answer, and the five counts
     answers, plain, memory = m.plain()          # the calls made so far, on the plain machine
+    print(sa110.replay("3,1,1,0,0\\n"), end="")   # a trace kept as text, replayed on 65,536 zero bytes: 1,0,112
 
 include/sa110.h says what each function of the library does; document 01 is the authority on every meaning. What the library refuses is an answer. A
 ValueError is raised for numbers that do not fit into 32 bits and for a memory and a cache store that are one bytearray, a TypeError for arguments of another
 type (memory is a length, or a bytearray, whose bytes the calls change; anything else that has bytes is copied), and an OSError where the shared
-object is missing.
+object is missing. A replay raises a ValueError where it is fed behind its end, and where its struct's fields are outside their ranges.
 """
 
 import ctypes
@@ -21,6 +22,8 @@ from typing import NamedTuple, Optional
 
 STORE_BYTES = 16384
 FIELDS = 5
+TRACE_LINE = 64  # bytes of the longest line of a trace as text, with its line feed
+PRINTED_LINE = 34  # bytes of the longest line that a replay prints, with its line feed
 
 # Kinds of call.
 LOAD, SIGNED_LOAD, STORE, READ, WRITE = range(5)
@@ -52,7 +55,7 @@ PERMISSION_SECTION, PERMISSION_PAGE = 13, 15
 FILL_SECTION, FILL_PAGE = 4, 6
 OTHER_SECTION, OTHER_PAGE = 8, 10
 
-# Refusals, in the order in which they are tested.
+# Refusals, 1 to 12 in the order in which they are tested; a line of a trace as text meets 13 before all others.
 (
     REFUSED_MEMORY,
     REFUSED_STORE,
@@ -66,7 +69,8 @@ OTHER_SECTION, OTHER_PAGE = 8, 10
     REFUSED_OPERATION,
     REFUSED_BIG_ENDIAN,
     REFUSED_CONTROL,
-) = range(1, 13)
+    REFUSED_LINE,
+) = range(1, 14)
 
 REFUSALS = {
     1: "the memory's length is not a multiple of 32 or exceeds 16,777,216",
@@ -81,6 +85,7 @@ REFUSALS = {
     10: "the pair for register 7 or 8 is not listed",
     11: "a control write sets bit 7",
     12: "a control write gives a combination of M, C and W that is not valid",
+    13: "a line of a trace as text departs from its form",
 }
 
 STATUSES = {
@@ -150,7 +155,25 @@ class PlainRan(ctypes.Structure):
     ]
 
 
-if ctypes.sizeof(Cp15) != 24 or ctypes.sizeof(State) != 4648 or State.slots.offset != 4520 or ctypes.sizeof(PlainRan) != 40:
+class ReplayStruct(ctypes.Structure):
+    """A replay of a trace kept as text, between two parts of it."""
+
+    _fields_ = [
+        ("state", State),
+        ("cp15", Cp15),
+        ("lines", c_uint64),
+        ("held", c_size_t),
+        ("waiting", c_size_t),
+        ("stopped", c_uint32),
+        ("begun", c_uint8 * 64),
+        ("pending", c_uint8 * 40),
+        ("taken", c_size_t),
+        ("written", c_size_t),
+    ]
+
+
+_sizes = [ctypes.sizeof(struct) for struct in (Cp15, State, PlainRan, ReplayStruct)]
+if _sizes != [24, 4648, 40, 4824] or State.slots.offset != 4520 or ReplayStruct.begun.offset != 4700 or ReplayStruct.taken.offset != 4808:
     raise ImportError("sa110: the structs have another layout than the library, which is built for 64 bits")
 
 
@@ -235,6 +258,7 @@ def load_library(path=None):
         "sa110_run": (c_size_t, lent + calls),
         "sa110_look": (c_uint64, lent + [c_uint32]),
         "sa110_plain_run": (PlainRan, memory + calls),
+        "sa110_replay": (c_uint32, [POINTER(ReplayStruct)] + memory * 3 + [c_uint32] + memory),
         "sa110_sound": (c_uint32, [POINTER(State), POINTER(Cp15), c_size_t]),
         "sa110_walk": (c_uint64, memory + [c_uint32, c_uint32]),
         "sa110_right": (c_uint8, [c_uint32]),
@@ -346,13 +370,88 @@ class Machine:
 
     @property
     def counts(self):
-        return Counts(*(getattr(self.state.counts, name) for name in Counts._fields))
+        return _counts(self.state)
 
     def same(self, other):
         """Whether state, record, memory and cache store are those of another machine."""
         fields = all(_value(getattr(self.state, name)) == _value(getattr(other.state, name)) for name, _ in State._fields_)
         record = bytes(self.cp15) == bytes(other.cp15)
         return fields and record and self.memory == other.memory and self.cache_store == other.cache_store
+
+
+class Replay:
+    """A replay of a trace kept as text: a call a line, five decimal fields parted by commas, in the order of a call's numbers. Each line prints one:
+    its number, 0 served or 1 fault or 2 refused, and the value. A line that departs from this is printed as refused by 13 and is the last one."""
+
+    def __init__(self, memory=65536, store=None, room=65536):
+        """Starts; memory and cache store are given as to Machine. `refusal` is 0, 1 or 2. `room` is the length, at least 1, of the slice that is lent
+        for the lines printed; it does not change what is printed."""
+        if room < 1:
+            raise ValueError("sa110: a slice for the lines printed has at least one byte")
+        fresh = Machine(memory, store)
+        self.memory, self.cache_store, self.refusal = fresh.memory, fresh.cache_store, fresh.refusal
+        self.struct = ReplayStruct(fresh.state, fresh.cp15)
+        self.room = (c_uint8 * index(room))()
+        self.ended = False
+
+    @property
+    def state(self):
+        return self.struct.state
+
+    @property
+    def cp15(self):
+        return self.struct.cp15
+
+    @property
+    def counts(self):
+        return _counts(self.state)
+
+    @property
+    def lines(self):
+        """The lines replayed, a malformed one too."""
+        return self.struct.lines
+
+    @property
+    def stopped(self):
+        """Whether a line departed from the form."""
+        return self.struct.stopped != 0
+
+    def feed(self, text):
+        """Replays a part of the text, which may end anywhere, and gives the bytes of the lines that it prints."""
+        return self._part(text, 0)
+
+    def finish(self):
+        """Ends the text: a line that has begun is malformed. Gives the bytes of its line, or none."""
+        printed = self._part(b"", 1)
+        self.ended = True
+        return printed
+
+    def _part(self, text, ends):
+        if self.ended:
+            raise ValueError("sa110: the replay has ended")
+        text, at, printed = bytes(memoryview(text)), 0, bytearray()
+        lent = (c_uint8 * max(1, len(text))).from_buffer_copy(text or b"\0")
+        while True:
+            rest = (c_uint8 * 0).from_buffer(lent, at), len(text) - at
+            slices = *_bytes(self.memory), *_bytes(self.cache_store), *rest
+            if _lib().sa110_replay(byref(self.struct), *slices, ends, self.room, len(self.room)) != 0:
+                raise ValueError("sa110: the replay's fields are outside their ranges")
+            printed += memoryview(self.room)[: self.struct.written]
+            at += self.struct.taken
+            if at == len(text) and self.struct.written == 0:
+                return bytes(printed)
+
+
+def replay(text):
+    """Replays a whole text, bytes or str, on 65,536 zero bytes, and gives the lines that it prints, of the same kind."""
+    trace = Replay()
+    if not isinstance(text, str):
+        return trace.feed(text) + trace.finish()
+    return (trace.feed(text.encode("utf-8", "surrogatepass")) + trace.finish()).decode("ascii")
+
+
+def _counts(state):
+    return Counts(*(getattr(state.counts, name) for name in Counts._fields))
 
 
 def _value(x):
