@@ -344,7 +344,7 @@ static struct sa110_replay *replay_of(struct block *b) { return (struct sa110_re
 
 /* Whether a replay's own fields are in their ranges. */
 static int in_range(const struct sa110_replay *r) {
-    return r->lines <= INT64_MAX && r->held <= 63 && r->waiting <= 40 && memchr(r->begun, '\n', r->held) == NULL;
+    return r->lines <= INT64_MAX && r->held <= 63 && r->waiting <= 64 && memchr(r->begun, '\n', r->held) == NULL;
 }
 
 /* Whether two replays are the same but for taken and written; bytes that belong to no field may differ. */
@@ -435,7 +435,7 @@ static struct block some_replay(struct machine *m, const uint8_t *text, size_t l
     r->lines = chance(2) ? below(100) : any() >> below(48);
     r->held = begun > length || memchr(text, '\n', begun) != NULL ? 0 : begun;
     memcpy(r->begun, text, r->held);
-    r->waiting = chance(2) ? 0 : below(41);
+    r->waiting = chance(2) ? 0 : below(65);
     r->stopped = chance(10) ? word() : 0;
     return b;
 }
@@ -451,7 +451,7 @@ static void damage_replay(struct sa110_replay *r) {
         r->held = chance(2) ? 62 + below(4) : (size_t)any() << below(40);
         break;
     case 2:
-        r->waiting = chance(2) ? 39 + below(4) : (size_t)any() << below(40);
+        r->waiting = chance(2) ? 63 + below(4) : (size_t)any() << below(40);
         break;
     case 3:
         r->begun[below(64)] = '\n';

@@ -104,10 +104,10 @@ struct sa110_replay {
     struct sa110_cp15 cp15;
     uint64_t lines;      /* lines replayed, a malformed one too; 0 to 2^63 - 1 */
     size_t held;         /* bytes of a line that has begun and not ended, at the front of `begun`; 0 to 63, no line feed among them */
-    size_t waiting;      /* bytes printed that no slice had room for, at the front of `pending`; 0 to 40 */
+    size_t waiting;      /* bytes printed that no slice had room for, at the front of `pending`; 0 to 64 */
     uint32_t stopped;    /* not 0 behind a malformed line */
     uint8_t begun[64];
-    uint8_t pending[40];
+    uint8_t pending[64];
     size_t taken;        /* what the last call took of its text */
     size_t written;      /* what the last call wrote into its slice */
 };
@@ -132,7 +132,7 @@ SA110_STATIC_ASSERT(offsetof(struct sa110_state, slots) == 4520, "state.slots");
 SA110_STATIC_ASSERT(sizeof(struct sa110_plain_ran) == 40, "plain_ran");
 SA110_STATIC_ASSERT(offsetof(struct sa110_plain_ran, refusal) == 24, "plain_ran.refusal");
 SA110_STATIC_ASSERT(offsetof(struct sa110_plain_ran, made) == 32, "plain_ran.made");
-SA110_STATIC_ASSERT(sizeof(struct sa110_replay) == 4824, "replay");
+SA110_STATIC_ASSERT(sizeof(struct sa110_replay) == 4848, "replay");
 SA110_STATIC_ASSERT(offsetof(struct sa110_replay, state) == 0, "replay.state");
 SA110_STATIC_ASSERT(offsetof(struct sa110_replay, cp15) == 4648, "replay.cp15");
 SA110_STATIC_ASSERT(offsetof(struct sa110_replay, lines) == 4672, "replay.lines");
@@ -141,8 +141,8 @@ SA110_STATIC_ASSERT(offsetof(struct sa110_replay, waiting) == 4688, "replay.wait
 SA110_STATIC_ASSERT(offsetof(struct sa110_replay, stopped) == 4696, "replay.stopped");
 SA110_STATIC_ASSERT(offsetof(struct sa110_replay, begun) == 4700, "replay.begun");
 SA110_STATIC_ASSERT(offsetof(struct sa110_replay, pending) == 4764, "replay.pending");
-SA110_STATIC_ASSERT(offsetof(struct sa110_replay, taken) == 4808, "replay.taken");
-SA110_STATIC_ASSERT(offsetof(struct sa110_replay, written) == 4816, "replay.written");
+SA110_STATIC_ASSERT(offsetof(struct sa110_replay, taken) == 4832, "replay.taken");
+SA110_STATIC_ASSERT(offsetof(struct sa110_replay, written) == 4840, "replay.written");
 
 /* Whether two states are the same. The four bytes between counts and used belong to no field and may hold anything, so memcmp of whole states
  * is no comparison. */
@@ -320,7 +320,7 @@ uint32_t sa110_sound(const struct sa110_state *state, const struct sa110_cp15 *c
  * A part may end anywhere, also inside a line or a number. `ends` is not 0 where the input ends with this part, and then only: a line that has begun
  * is malformed then. The slice `out` may have any length. What is printed does not depend on the parts and slices.
  *
- * Gives 0, or 3 where the replay's own fields are outside their ranges: lines above 2^63 - 1, held above 63, waiting above 40, or a line feed among
+ * Gives 0, or 3 where the replay's own fields are outside their ranges: lines above 2^63 - 1, held above 63, waiting above 64, or a line feed among
  * the first `held` bytes of `begun`; then nothing has changed but that taken and written are 0. State, record, memory and cache store are tested by
  * each line's call, whose refusal is printed. Else one call does one of these, the first that applies: it writes what waits; it takes all of the text
  * behind a malformed line and writes nothing; it replays lines, at most 1,024 and at most one in SA110_PRINTED_LINE bytes of `out`, but one line

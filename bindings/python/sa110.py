@@ -166,14 +166,14 @@ class ReplayStruct(ctypes.Structure):
         ("waiting", c_size_t),
         ("stopped", c_uint32),
         ("begun", c_uint8 * 64),
-        ("pending", c_uint8 * 40),
+        ("pending", c_uint8 * 64),
         ("taken", c_size_t),
         ("written", c_size_t),
     ]
 
 
 _sizes = [ctypes.sizeof(struct) for struct in (Cp15, State, PlainRan, ReplayStruct)]
-if _sizes != [24, 4648, 40, 4824] or State.slots.offset != 4520 or ReplayStruct.begun.offset != 4700 or ReplayStruct.taken.offset != 4808:
+if _sizes != [24, 4648, 40, 4848] or State.slots.offset != 4520 or ReplayStruct.begun.offset != 4700 or ReplayStruct.taken.offset != 4832:
     raise ImportError("sa110: the structs have another layout than the library, which is built for 64 bits")
 
 

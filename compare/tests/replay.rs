@@ -337,7 +337,7 @@ fn records_between_parts() {
         // what stands behind the bytes held, and behind those that wait, does not matter
         let held = r.held;
         r.begun[held..].fill(rng.pick(&[0, b'\n', b'1']));
-        r.waiting = rng.pick(&[0, 0, 1, 7, 33, 34, 39, 40]);
+        r.waiting = rng.pick(&[0, 0, 1, 7, 33, 34, 39, 40, 63, 64]);
         r.pending.fill(rng.pick(&[0, b'\n', b'x']));
         r.stopped = rng.pick(&[0, 0, 0, 1, 2, u32::MAX]);
         r.lines = rng.draw() >> (1 + rng.below(63));
@@ -401,9 +401,9 @@ const DAMAGES: [(&str, Damage); 6] = [
         let any = rng.draw() as usize | 64;
         r.held = rng.pick(&[64, 65, 128, 1 << 32, usize::MAX, any])
     }),
-    ("waiting above 40", |r, rng| {
-        let any = rng.draw() as usize | 64;
-        r.waiting = rng.pick(&[41, 42, 64, 1 << 32, usize::MAX, any])
+    ("waiting above 64", |r, rng| {
+        let any = rng.draw() as usize | 128;
+        r.waiting = rng.pick(&[65, 66, 127, 1 << 32, usize::MAX, any])
     }),
     ("a line feed at the front of begun", |r, rng| {
         r.held = 1 + rng.below(63) as usize;
@@ -432,7 +432,7 @@ fn damaged_records() {
         let byte = rng.pick(&[b'0', b'3', b',', 255]);
         r.begun.fill(byte);
         r.held = rng.below(64) as usize;
-        r.waiting = rng.below(41) as usize;
+        r.waiting = rng.below(65) as usize;
         r.stopped = rng.pick(&[0, 0, 0, 1, u32::MAX]);
         (r.taken, r.written) = (rng.draw() as usize, rng.draw() as usize);
         let mut names = vec![what];

@@ -233,12 +233,12 @@ pub struct Replay {
     /// Bytes of a line that has begun and not ended, at the front of `begun`; 0 to 63, no line feed
     /// among them.
     pub held: usize,
-    /// Bytes printed that no slice had room for, at the front of `pending`; 0 to 40.
+    /// Bytes printed that no slice had room for, at the front of `pending`; 0 to 64.
     pub waiting: usize,
     /// Not 0 behind a malformed line.
     pub stopped: u32,
     pub begun: [u8; TRACE_LINE],
-    pub pending: [u8; 40],
+    pub pending: [u8; 64],
     /// What the last part took of its text.
     pub taken: usize,
     /// What the last part wrote into its slice.
@@ -253,11 +253,11 @@ const _: () = {
     assert!(offset_of!(State, pointers) == 4392 && offset_of!(State, words) == 4456);
     assert!(offset_of!(State, bytes) == 4520);
     assert!(size_of::<PlainRan>() == 40 && offset_of!(PlainRan, made) == 32);
-    assert!(size_of::<Replay>() == 4824 && offset_of!(Replay, cp15) == 4648);
+    assert!(size_of::<Replay>() == 4848 && offset_of!(Replay, cp15) == 4648);
     assert!(offset_of!(Replay, lines) == 4672 && offset_of!(Replay, held) == 4680);
     assert!(offset_of!(Replay, waiting) == 4688 && offset_of!(Replay, stopped) == 4696);
     assert!(offset_of!(Replay, begun) == 4700 && offset_of!(Replay, pending) == 4764);
-    assert!(offset_of!(Replay, taken) == 4808 && offset_of!(Replay, written) == 4816);
+    assert!(offset_of!(Replay, taken) == 4832 && offset_of!(Replay, written) == 4840);
 };
 
 extern "C" {
@@ -480,7 +480,7 @@ impl Replay {
             waiting: 0,
             stopped: 0,
             begun: [0; TRACE_LINE],
-            pending: [0; 40],
+            pending: [0; 64],
             taken: 0,
             written: 0,
         }))

@@ -12,7 +12,8 @@ use borrow.Author.Tests.{le-leb, lt-leb, ne-eqb, leb-true, eqb-true, not-true}
 use Rattle.values.specs.Lists.{any}
 use Rattle.values.proofs.Cases.{case, and-left, and-right, and-false}
 use Rattle.machine.specs.Machine.{Machine}
-use Rattle.replay.specs.Parts.{Held, heldFrom, padded, linesLimit, isFeed, kept, partedFrom, putOut, settled}
+use Rattle.replay.specs.Parts.{Held, heldFrom, padded, linesLimit, isFeed, kept, partedFrom, startReplay, putOut, settled}
+use Rattle.step.specs.Start.{Started, started}
 
 -- ---- the test of the fields
 
@@ -115,3 +116,10 @@ module _ (m : Machine) (lines made verdict : ℕ) (behind : List ℕ) where
 -- the bytes up to the end of a list are those behind its start
 pub to-end : (l : List ℕ) (k : ℕ) → take (length l - k) (drop k l) ≡ drop k l
 to-end l k = take-all (length l - k) (drop k l) (let e = length-drop k l in omega arith)
+
+-- ---- the start
+
+pub start-is : (memory store : List ℕ) (s : Started) → s ≡ started memory store
+    → partedFrom (heldFrom (s .machine) 0 0 0 0 (padded []) (padded [])) 0 0 [] (s .refusal) ≡ startReplay memory store
+unfolding startReplay
+start-is memory store s e = rw e

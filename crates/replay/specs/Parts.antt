@@ -11,6 +11,7 @@ use Rattle.trace.specs.Fold.{callsIn}
 use Rattle.printed.specs.Printed.{lineFeed, printed}
 use Rattle.fields.specs.Parse.{Parsed, parse, more, open-line, departing}
 use Rattle.machine.specs.Machine.{Machine}
+use Rattle.step.specs.Start.{started}
 use Rattle.step.specs.Run.{answers, final}
 use Rattle.replay.specs.Replay.{refused13}
 
@@ -61,6 +62,12 @@ pub record Parted : Type 0 where
 
 abbrev pub partedFrom : Held → ℕ → ℕ → List ℕ → ℕ → Parted
 partedFrom replay taken written out refusal = record { replay = replay; taken = taken; written = written; out = out; refusal = refusal }
+
+-- a start: nothing is replayed, held or waiting
+unfoldable pub startReplay : List ℕ → List ℕ → Parted
+startReplay memory store =
+    let s = started memory store in
+    partedFrom (heldFrom (s .machine) 0 0 0 0 (padded []) (padded [])) 0 0 [] (s .refusal)
 
 -- Bytes are written at the front of the slice, as many as it holds; the others wait.
 unfoldable pub putOut : Held → List ℕ → List ℕ → ℕ → Parted

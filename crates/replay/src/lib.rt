@@ -2,7 +2,7 @@
 ghost use mathlib.Core.Path.{_≡_};
 ghost use mathlib.Core.Bool.{true, cond, _&&_};
 ghost use lib.Dec.{eqb, leb};
-ghost use mathlib.Core.List.{List, _++_};
+ghost use mathlib.Core.List.{List, [], _++_};
 ghost use Prim.Native.Nat.{ℕ, _+_, _-_, _*_, _/_, _≤_, _<_, min};
 ghost use lib.ListN.{length, take, drop};
 ghost use Rattle.values.specs.Lists.{any};
@@ -50,6 +50,31 @@ pub struct Batch {
     pub end: usize,
     pub verdict: u32,
     pub written: usize,
+}
+
+// The start: a fresh state, with nothing replayed; 1 or 2 where the library's start is refused, else 0.
+pub fn replay_start(memory: &[u8], store: &[u8]) -> Part
+    ensures { λ r. ⌜ code.partedOf (now (memory .entry)) (now (store .entry)) [] r ≡ spec.startReplay (now (memory .entry)) (now (store .entry)) ⌝ }
+{
+    let s = sa110::start(memory, store);
+    let state = s.state;
+    let cp15 = s.cp15;
+    let replay = Replay {
+        state,
+        cp15,
+        lines: 0,
+        held: 0,
+        waiting: 0,
+        stopped: 0,
+        begun: [0u8; 64],
+        pending: [0u8; 64],
+        taken: 0,
+        written: 0,
+    };
+    Part {
+        replay,
+        refusal: s.refusal,
+    }
 }
 
 // Whether a line feed stands in the first n bytes.

@@ -1,0 +1,13 @@
+pub mod FirstLines
+pub mod Reading
+pub mod Printing
+pub mod OnePart
+pub mod Uses
+pub mod Example
+pub mod Answers
+pub mod Plain
+pub mod Ending
+pub mod Widths
+pub mod Staying
+pub mod Whole
+pub mod Ends

@@ -1,0 +1,89 @@
+-- Where the calls of a text keep the rules, the replay prints what the plain machine prints.
+use Prim.Native.Nat.{ℕ, zero, suc, _<_}
+use native.Mathlib.Omega.{arith}
+use mathlib.Core.Bool.{true, cond, _&&_}
+use mathlib.Core.Path.{_≡_, refl, ap}
+use mathlib.Core.List.{List, [], _∷_, _++_, map}
+use lib.Dec.{leb}
+use lib.ListN.{length, replicate}
+use borrow.Author.Tests.{leb-true}
+use Rattle.values.specs.Lists.{all}
+use Rattle.values.specs.declared.Answer.{Answer}
+use Rattle.values.proofs.Cases.{case, and-left, and-right}
+use Rattle.values.specs.Rows.{firstMet}
+use Rattle.trace.specs.Fold.{callsIn}
+use Rattle.printed.specs.Printed.{printed}
+use Rattle.fields.specs.Lines.{Line, linesOf, fieldsOf, isDigit, valueOf, isField, numbersIn, isLine, callsOf, departs}
+use Rattle.soundness_laws.proofs.LowBytes.{bytes-zeros}
+use Rattle.step.specs.Meets.{startRefusal}
+use Rattle.plain.specs.Plain.{plainStart}
+use Rattle.terms.specs.History.{noHistory}
+use Rattle.terms.specs.Rules.{Keeps}
+use Rattle.terms.specs.Term3.{AllNumbers, Run}
+use Rattle.terms.specs.Corollaries.{All32}
+use Rattle.terms.proofs.Term3.{term3}
+use Rattle.terms.proofs.Positions.{same-rules}
+use Rattle.terms.proofs.Corollaries.{calls-numbers}
+use Rattle.replay.specs.Replay.{refused13, lineAnswers}
+use Rattle.replay_terms.specs.Printed.{zeros, PlainReplay, PlainReplayPrinted}
+use Rattle.replay_terms.proofs.FirstLines.{line-stands}
+
+-- ---- the numbers of a line have 32 bits
+
+-- "up to 4,294,967,295"
+field-low : (f : List ℕ) → isField f ≡ true → valueOf f < 0x100000000
+field-low f t =
+    let a = and-right (leb 1 (length f)) (all isDigit f && leb (valueOf f) 0xFFFFFFFF) t in
+    let b = leb-true (valueOf f) 0xFFFFFFFF (and-right (all isDigit f) (leb (valueOf f) 0xFFFFFFFF) a) in
+    omega arith
+
+-- the numbers of fields
+fields-low : (fs : List (List ℕ)) → all isField fs ≡ true → All32 (map valueOf fs)
+unfolding all
+fields-low [] t i h = absurd (omega arith)
+fields-low (f ∷ fs) t zero h = field-low f (and-left (isField f) (all isField fs) t)
+fields-low (f ∷ fs) t (suc i) h = fields-low fs (and-right (isField f) (all isField fs) t) i (omega arith)
+
+-- so the call of a line has numbers of 32 bits
+line-numbers : (l : Line) → isLine l ≡ true → AllNumbers (callsIn 1 (numbersIn l) 0)
+line-numbers l t = calls-numbers (numbersIn l) (fields-low (fieldsOf (l .bytes)) (line-stands l t .are-fields)) 1 0
+
+-- and so have the calls of lines
+pub lines-numbers : (lines : List Line) → AllNumbers (callsOf lines)
+unfolding callsOf AllNumbers callsIn
+lines-numbers [] = tt
+lines-numbers (l ∷ ls) =
+    case (isLine l)
+    (λ t. let n : AllNumbers (callsIn 1 (numbersIn l) 0) = line-numbers l t in rw t ((rw (line-stands l t .is-call) at n) .0, lines-numbers ls))
+    (λ t. rw t tt)
+
+-- ---- a start on zero bytes
+
+-- the start is served
+pub start-served : startRefusal zeros (replicate 16384 0) ≡ 0
+unfolding startRefusal firstMet
+start-served = refl
+
+module _ (text : List ℕ) (k : Keeps (plainStart zeros) noHistory (callsOf (linesOf text))) where
+  -- the run of the text's calls, as term 3 asks for it
+  zero-run : Run zeros (replicate 16384 0) (callsOf (linesOf text))
+  zero-run =
+      record {
+        memory-bytes = bytes-zeros 65536;
+        store-bytes = bytes-zeros 16384;
+        served-start = start-served;
+        numbers = lines-numbers (linesOf text);
+        keeps = k;
+      }
+
+-- the rules call by call
+pub plain-replay : PlainReplay
+unfolding lineAnswers
+plain-replay text k =
+    let lines = linesOf text in
+    let t = term3 zeros (replicate 16384 0) (callsOf lines) (zero-run text k) in
+    ap (λ (l : List Answer). printed 1 (l ++ cond (departs lines) refused13 [])) (t .same-answers)
+
+-- the rules over positions
+pub plain-replay-printed : PlainReplayPrinted
+plain-replay-printed text k = plain-replay text (same-rules zeros (callsOf (linesOf text)) .rules .1 k)

@@ -1,0 +1,1 @@
+// What the replay's definitions imply stands in specs/ and is proved in proofs/.
