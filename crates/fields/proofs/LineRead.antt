@@ -1,21 +1,21 @@
 -- A line read as a call: each return of the function that reads it.
-use Prim.Native.Nat.{ℕ, zero, suc, _+_, _*_, _-_, _≤_, _<_}
+use Prim.Native.Nat.{ℕ, _+_, _*_, _-_, _≤_, _<_}
 use native.Mathlib.Omega.{arith}
 use native.Mathlib.Nat.{add-zero}
-use mathlib.Core.Bool.{Bool, true, false, cond, _&&_, and-assoc}
+use mathlib.Core.Bool.{Bool, true, false, _&&_, and-assoc}
 use mathlib.Core.Path.{_≡_, refl, sym, _∙_, ap}
-use mathlib.Core.List.{List, [], _∷_, _++_, map, append-assoc}
+use mathlib.Core.List.{List, _++_, append-assoc}
 use lib.Dec.{eqb, leb}
 use lib.ListN.{length, getD, take, drop, length-map, List·getD-append}
 use lib.Seq.{sets, sets-eq, length-take-le, getD-append-add}
 use borrow.Author.Tests.{eqb-true, lt-leb, le-leb}
 use Rattle.values.specs.Lists.{all}
-use Rattle.values.proofs.Cases.{case, and-left, and-right, and-both, and-false, clash}
+use Rattle.values.proofs.Cases.{and-left, and-right, and-both, and-false, clash}
 use Rattle.trace.specs.Calls.{isCall, isCallAt}
 use Rattle.fields.specs.Lines.{Line, fieldsOf, valueOf, isField, numbersIn, isLine}
 use Rattle.fields.specs.Parse.{firstLine, sizeOf}
 use Rattle.fields.specs.Code.{LineRead}
-use Rattle.fields.proofs.Scan.{Scanned, scan, Scanning, scanned-good, scanned-numbers, scanned-size}
+use Rattle.fields.proofs.Scan.{scan, Scanning, scanned-good, scanned-numbers, scanned-size}
 use Rattle.fields.proofs.Means.{fieldsTest, means}
 
 -- a line that ends, has five fields, is short and is a call

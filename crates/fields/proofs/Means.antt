@@ -1,8 +1,8 @@
 -- Fields read one after another are the fields that the definition parts at commas.
-use Prim.Native.Nat.{ℕ, zero, suc, _+_, _≤_, _<_}
+use Prim.Native.Nat.{ℕ, zero, suc, _+_, _≤_}
 use native.Mathlib.Omega.{arith}
-use native.Mathlib.Nat.{add-zero, add-suc}
-use mathlib.Core.Bool.{Bool, true, false, cond, _&&_}
+use native.Mathlib.Nat.{add-zero}
+use mathlib.Core.Bool.{Bool, true, false, _&&_}
 use mathlib.Core.Path.{_≡_, refl, sym, _∙_, ap, subst}
 use mathlib.Core.List.{List, [], _∷_, _++_, append-nil, nil≢cons}
 use lib.Dec.{eqb, leb, eqb·suc-suc}
@@ -10,12 +10,11 @@ use lib.ListN.{length, getD, drop, length-append, List·getD-eq-default}
 use lib.Seq.{drop-append-add, getD-append-seam}
 use borrow.Author.Tests.{eqb-true, eqb-false, ne-eqb, eq-eqb}
 use Rattle.values.specs.Lists.{all}
-use Rattle.values.proofs.Cases.{case, and-left, and-right, and-both, and-false, clash}
+use Rattle.values.proofs.Cases.{case, and-left, and-right, and-false, clash}
 use Rattle.printed.specs.Printed.{lineFeed, comma}
 use Rattle.fields.specs.Lines.{Line, lineFrom, ontoField, fieldsOf, isDigit, valueOf, isField, numbersIn}
 use Rattle.fields.specs.Parse.{firstLine, sizeOf}
 use Rattle.fields.specs.Code.{digitsOf, fieldFrom, fieldAt, behind}
-use Rattle.fields.specs.declared.Field.{Field}
 use Rattle.fields.proofs.Scan.{Scanned, scan}
 
 -- ---- a text is its digits and what is behind them

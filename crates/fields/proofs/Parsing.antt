@@ -1,13 +1,13 @@
 -- Lines read one after another: the loop that reads them into a list of calls.
-use Prim.Native.Nat.{ℕ, zero, suc, _+_, _*_, _-_, _≤_, _<_}
+use Prim.Native.Nat.{ℕ, suc, _+_, _*_, _-_, _≤_, _<_}
 use native.Mathlib.Omega.{arith}
 use native.Mathlib.Nat.{sub-zero, add-zero, zero-add}
 use mathlib.Core.Bool.{Bool, true, false, cond, _&&_}
 use mathlib.Core.Path.{_≡_, refl, sym, _∙_, ap}
-use mathlib.Core.List.{List, [], _∷_, _++_, append-nil, append-assoc}
+use mathlib.Core.List.{List, [], _++_, append-nil, append-assoc}
 use lib.Dec.{eqb, leb}
 use lib.ListN.{length, take, drop, length-map, length-append}
-use lib.Seq.{sets, sets-eq, drop-drop, length-take-le, take-at}
+use lib.Seq.{sets-eq, drop-drop, length-take-le, take-at}
 use borrow.Author.Tests.{eqb-true}
 use Rattle.values.specs.Lists.{all}
 use Rattle.values.proofs.Cases.{case, and-left, and-right}

@@ -1,12 +1,12 @@
 -- Five fields read one after another: the loop that reads a line.
 use Prim.Native.Nat.{ℕ, zero, suc, _+_, _*_, _-_, _≤_, _<_}
 use native.Mathlib.Omega.{arith}
-use native.Mathlib.Nat.{sub-zero, add-zero}
+use native.Mathlib.Nat.{add-zero}
 use mathlib.Core.Bool.{Bool, true, false, cond}
 use mathlib.Core.Path.{_≡_, refl, sym, _∙_, ap}
 use mathlib.Core.List.{List, [], _∷_}
 use lib.Dec.{eqb}
-use lib.ListN.{length, getD, take, drop, set, length-set}
+use lib.ListN.{length, take, drop, set, length-set}
 use lib.Seq.{sets, drop-drop, take-set-le}
 use borrow.Author.Tests.{eq-eqb, ne-eqb}
 use Rattle.fields.specs.Code.{fieldAt, behind}

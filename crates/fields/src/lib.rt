@@ -4,7 +4,6 @@ ghost use mathlib.Core.Bool.{cond, _||_};
 ghost use Prim.Native.Nat.{_+_, _-_, _*_, _≤_, _<_};
 ghost use lib.Dec.{leb};
 ghost use lib.ListN.{length, drop};
-ghost use Rattle.fields.specs.Lines as spec;
 ghost use Rattle.fields.specs.Parse as parses;
 ghost use Rattle.fields.specs.Code as code;
 
@@ -15,11 +14,14 @@ const GREATEST: u64 = 0xFFFFFFFF;
 pub const LONGEST: usize = 64;
 
 const FEED: u8 = 10;
+
 const COMMA: u8 = 44;
 
 // What comes behind the lines read: more lines, a line that is not decided, or a line that departs.
 pub const MORE: u32 = 0;
+
 pub const OPEN: u32 = 1;
+
 pub const DEPARTS: u32 = 2;
 
 // A number, and the place behind its digits.

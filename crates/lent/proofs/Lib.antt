@@ -1,2 +1,2 @@
-mod Borrows
+pub mod Borrows
 pub mod Calls

@@ -2,12 +2,12 @@
 use Prim.Native.Nat.{ℕ, zero, suc, _+_, _-_, _≤_, _<_, min}
 use native.Mathlib.Omega.{arith}
 use native.Mathlib.Nat.{add-zero}
-use mathlib.Core.Bool.{Bool, true, false, cond, not, _&&_}
+use mathlib.Core.Bool.{Bool, true, false, not, _&&_}
 use mathlib.Core.Path.{_≡_, refl, sym, _∙_, ap}
 use mathlib.Core.List.{List, [], _∷_, _++_}
 use lib.Dec.{leb, eqb}
 use lib.ListN.{length, take, drop, length-drop}
-use lib.Seq.{take-take, length-take-le, take-all, drop-nil}
+use lib.Seq.{take-take, length-take-le, take-all}
 use borrow.Author.Tests.{le-leb, lt-leb, ne-eqb, leb-true, eqb-true, not-true}
 use Rattle.values.specs.Lists.{any}
 use Rattle.values.proofs.Cases.{case, and-left, and-right, and-false}

@@ -1,13 +1,13 @@
 -- A line begun, with what belongs to it of the text behind it: it is the first line of both, and what is parsed of it is what is parsed of both.
-use Prim.Native.Nat.{ℕ, zero, suc, _+_, _-_, _≤_, _<_}
+use Prim.Native.Nat.{ℕ, zero, suc, _+_, _-_, _≤_}
 use native.Mathlib.Omega.{arith}
 use mathlib.Core.Bool.{Bool, true, false, cond, _&&_, _||_, and-true}
 use mathlib.Core.Logic.{_⊎_, inl, inr, ⊎-elim}
 use mathlib.Core.Path.{_≡_, refl, sym, _∙_, ap}
 use mathlib.Core.List.{List, [], _∷_, _++_, append-assoc, append-nil}
 use lib.Dec.{eqb, leb}
-use lib.ListN.{length, take, drop, length-append, length-drop, drop-of-length-le}
-use lib.Seq.{drop-append-seam, drop-append-le}
+use lib.ListN.{length, drop, length-append, length-drop, drop-of-length-le}
+use lib.Seq.{drop-append-seam}
 use borrow.Author.Tests.{eq-eqb, le-leb, lt-leb}
 use Rattle.values.specs.Lists.{any}
 use Rattle.values.proofs.Cases.{case, clash, or-left, or-right, and-false}
@@ -209,4 +209,3 @@ module _ (ends : Bool) (begun text : List ℕ) (k : ℕ) (nf : any isFeed begun 
   one-parsed =
       case (firstLine x .ended) one-ended
       (λ h. ⊎-elim (one-long h) (one-all h) (onto-open k text h))
-

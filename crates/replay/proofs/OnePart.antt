@@ -1,21 +1,20 @@
 -- One line replayed: the return of `replay_one`.
-use Prim.Native.Nat.{ℕ, _+_, _-_, _≤_}
+use Prim.Native.Nat.{ℕ, _+_, _-_}
 use native.Mathlib.Omega.{arith}
 use native.Mathlib.Nat.{zero-add}
-use mathlib.Core.Bool.{Bool, true, cond, _&&_}
-use mathlib.Core.Path.{_≡_, refl, sym, _∙_, ap}
-use mathlib.Core.List.{List, [], _++_}
+use mathlib.Core.Bool.{Bool, cond, _&&_}
+use mathlib.Core.Path.{_≡_, sym, _∙_, ap}
+use mathlib.Core.List.{List, _++_}
 use lib.Dec.{eqb}
 use lib.ListN.{length, take, drop}
 use lib.Seq.{length-take-le, take-at}
 use borrow.Author.Tests.{eqb-true}
 use Rattle.values.proofs.Cases.{case}
-use Rattle.machine.specs.Machine.{Machine}
 use Rattle.printed.specs.Printed.{printed}
 use Rattle.printed.specs.Code.{Laid}
 use Rattle.fields.specs.Parse.{Parsed, parse, more}
 use Rattle.sa110.specs.State.{machineIn}
-use Rattle.replay.specs.Parts.{Held, begunLine, Parted, putOut, machineAfter, parsedAnswers, left, settled, replayed}
+use Rattle.replay.specs.Parts.{Held, begunLine, putOut, machineAfter, parsedAnswers, left, settled, replayed}
 use Rattle.replay.specs.Code.{onto, Batched}
 use Rattle.replay.specs.declared.Batch.{Batch}
 use Rattle.replay.proofs.Keeping.{Kept, settled-same}

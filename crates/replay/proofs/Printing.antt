@@ -1,12 +1,12 @@
 -- Replayed lines printed: from the codes of a run's answers to the lines of the answers.
-use Prim.Native.Nat.{ℕ, zero, suc, _+_, _*_, _-_, _/_, _≤_, _<_, min}
+use Prim.Native.Nat.{ℕ, zero, suc, _+_, _*_, _/_, _≤_, _<_, min}
 use native.Mathlib.Omega.{arith}
 use native.Mathlib.Nat.{add-zero, zero-add}
-use mathlib.Core.Bool.{Bool, true, false, cond}
-use mathlib.Core.Path.{_≡_, refl, sym, _∙_, ap, subst}
+use mathlib.Core.Bool.{Bool, false, cond}
+use mathlib.Core.Path.{_≡_, sym, _∙_, ap, subst}
 use mathlib.Core.List.{List, [], _∷_, _++_, map, append-nil, append-assoc}
 use lib.Dec.{eqb}
-use lib.ListN.{length, getD, take, drop, length-append, length-map}
+use lib.ListN.{length, getD, take, drop}
 use lib.Seq.{getD-take, getD-drop, drop-drop}
 use borrow.Author.Tests.{eqb-true, ne-eqb}
 use Rattle.values.proofs.Cases.{case}
@@ -29,7 +29,7 @@ use Rattle.answers.proofs.Told.{list-told}
 use Rattle.soundness_test.specs.Formed.{Formed}
 use Rattle.step.specs.Meets.{stateRefusal}
 use Rattle.machine.specs.Machine.{Machine}
-use Rattle.step.specs.Run.{next, answered, answers, final, run}
+use Rattle.step.specs.Run.{next, answered, answers, run}
 use Rattle.step.proofs.Runs.{run-as}
 use Rattle.replay.specs.Replay.{refused13}
 use Rattle.replay.specs.Parts.{machineAfter, parsedAnswers, stops}

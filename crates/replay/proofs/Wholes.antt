@@ -3,22 +3,21 @@ use Prim.Native.Nat.{ℕ, _+_, _*_, _-_, _≤_, min}
 use native.Mathlib.Omega.{arith}
 use native.Mathlib.Nat.{zero-add}
 use mathlib.Core.Bool.{Bool, cond}
-use mathlib.Core.Path.{_≡_, refl, sym, _∙_, ap}
-use mathlib.Core.List.{List, [], _++_}
+use mathlib.Core.Path.{_≡_, _∙_, ap}
+use mathlib.Core.List.{List, _++_}
 use lib.Dec.{eqb}
-use lib.ListN.{length, take, drop, length-drop}
+use lib.ListN.{length, drop, length-drop}
 use lib.Seq.{take-length, drop-length}
-use borrow.Author.Tests.{eqb-true}
 use Rattle.values.proofs.Cases.{case}
 use Rattle.machine.specs.Machine.{Machine}
 use Rattle.printed.specs.Printed.{printed}
-use Rattle.printed.specs.Code.{over, Laid}
+use Rattle.printed.specs.Code.{Laid}
 use Rattle.fields.specs.Parse.{Parsed, parse, more}
 use Rattle.fields.proofs.First.{parse-within}
 use Rattle.sa110.specs.State.{machineIn}
 use Rattle.replay.specs.Code.{Batched}
 use Rattle.replay.specs.declared.Batch.{Batch}
-use Rattle.replay.specs.Parts.{Held, padded, Parted, partedFrom, putOut, machineAfter, parsedAnswers, left, settled, replayed}
+use Rattle.replay.specs.Parts.{Held, partedFrom, putOut, machineAfter, parsedAnswers, left, settled, replayed}
 
 -- bytes laid at the front, with nothing waiting, are put out
 pub put-whole : (m : Machine) (lines made verdict : ℕ) (behind bytes out after : List ℕ) (end most taken : ℕ) → Laid out after 0 end most bytes

@@ -1,10 +1,9 @@
 -- What the code's record stands for.
-use Prim.Native.Nat.{ℕ, zero, suc, _+_, _*_, _-_}
+use Prim.Native.Nat.{ℕ, zero, suc, _+_, _*_}
 use mathlib.Core.Bool.{Bool, cond, not}
 use mathlib.Core.Path.{_≡_}
-use mathlib.Core.List.{List, [], _∷_, _++_}
+use mathlib.Core.List.{List, [], _∷_}
 use lib.Dec.{eqb}
-use lib.ListN.{length}
 use Rattle.printed.specs.Printed.{lineFeed, printed}
 use Rattle.printed.specs.Code.{Laid}
 use Rattle.fields.specs.Parse.{parse, departing}

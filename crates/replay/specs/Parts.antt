@@ -1,8 +1,8 @@
 -- The replay in parts: what it holds between two parts of a text, and what a part does. A part may end anywhere, and so may the slice that is lent for the
 -- output: the bytes of a line that has not ended, and bytes printed that the slice had no room for, are held until the next part.
 use Prim.Native.Nat.{ℕ, _+_, _-_, _/_, min}
-use mathlib.Core.Bool.{Bool, true, false, cond, not, _&&_}
-use mathlib.Core.List.{List, [], _∷_, _++_}
+use mathlib.Core.Bool.{Bool, cond, not, _&&_}
+use mathlib.Core.List.{List, [], _++_}
 use lib.Dec.{eqb, leb}
 use lib.ListN.{length, take, drop, replicate}
 use Rattle.values.specs.Lists.{any}

@@ -334,9 +334,25 @@ fn replay_one(
     let taken = join(&mut line, held, text);
     let whole = &line[..held + taken];
     let last = is_last(ends, taken, text.len());
-    let b = replay_lines(state, cp15, memory, store, whole, last, lines, 1, &mut printed);
+    let b = replay_lines(
+        state,
+        cp15,
+        memory,
+        store,
+        whole,
+        last,
+        lines,
+        1,
+        &mut printed,
+    );
     let after = settled(b, lines, whole);
-    put_out(after, &printed, b.written, out, taken_by(b.verdict, taken, text.len()))
+    put_out(
+        after,
+        &printed,
+        b.written,
+        out,
+        taken_by(b.verdict, taken, text.len()),
+    )
 }
 
 // Whether no line is begun and the slice has room for a line.

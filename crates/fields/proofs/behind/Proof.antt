@@ -1,6 +1,3 @@
-use mathlib.Core.Path.{_≡_, refl}
-use native.Mathlib.Omega.{arith}
-use Prim.Native.Nat.{_-_, suc}
 use borrow.Author.Needs.{needs}
 use Rattle.fields.proofs.Separators.{behind-comma, behind-feed}
 use Rattle.fields.proofs.behind.Statement.{statement}

@@ -1,8 +1,4 @@
 use Rattle.fields.proofs.Within.{Looking, looking-start, looking-none, looking-end, looking-feed, looking-on}
-use Prim.Native.Nat.{_-_, _≤_, suc}
-use mathlib.Core.Path.{_≡_, refl, sym, _∙_, ap}
-use lib.ListN.{length, drop}
-use native.Mathlib.Omega.{arith}
 use borrow.Author.Needs.{needs}
 use denote.Ref.{now}
 use Rattle.fields.proofs.is_long.Statement.{statement}

@@ -1,8 +1,6 @@
-use native.Mathlib.Omega.{arith}
 use borrow.Author.Needs.{needs}
 use denote.Ref.{now}
 use Prim.Native.Nat.{_-_}
-use lib.ListN.{length}
 use mathlib.Core.Path.{_∙_}
 use Rattle.fields.proofs.Parsing.{Parsing, parsing-start, parsing-end, parsing-stop, parsing-on}
 use Rattle.fields.proofs.parse.Statement.{statement}
@@ -31,9 +29,11 @@ same-length c = let at-loop = c .before .before .before .before .before .before 
 
 returns : tie.Need-returns Inv-loop μ-loop
 returns c = let at-loop = c .before .before .before .before .before .before .before in let l = at-loop .loop in let a = at-loop .before .before .before .args in
-    let r = c .before .before .before .before .read-line in
-    (parsing-stop (a .ends) (a .n) (now (a .text)) (now (a .calls)) (l .calls) (l .at) (l .k) (l .inv) (search needs) (r .last .1 .1 .0) (r .result) (r .ensures .0) (c .verdict .result) (c .before .if1 .taken) (c .verdict .ensures),
-    l .inv .high, l .inv .low)
+    let r = c .before .before .before .before .read-line in (
+      parsing-stop (a .ends) (a .n) (now (a .text)) (now (a .calls)) (l .calls) (l .at) (l .k) (l .inv) (search needs) (r .last .1 .1 .0) (r .result) (r .ensures .0) (c .verdict .result) (c .before .if1 .taken) (c .verdict .ensures),
+      l .inv .high,
+      l .inv .low,
+    )
 
 add-at : tie.Need-add-at Inv-loop μ-loop
 add-at c = let at-loop = c .before .before .before .before .before .before in let l = at-loop .loop in let a = at-loop .before .before .before .args in

@@ -42,9 +42,11 @@ sub-t11 c = let after-read-number = c .before .before .before .before .before .b
 
 returns-5 : tie.Need-returns-5
 returns-5 c = let after-read-number = c .before .before .before .before .before .before .before in
-    let a = after-read-number .before .before .args in let m = after-read-number .read-number in
-    (field-good (now (a .text)) (a .from) (a .by) (m .result .value) (m .result .end) (m .ensures .0) (c .before .before .before .before .before .if1 .left)
-    (c .before .before .before .before .if2 .left) (c .before .if4 .left), search needs)
+    let a = after-read-number .before .before .args in let m = after-read-number .read-number in (
+      field-good (now (a .text)) (a .from) (a .by) (m .result .value) (m .result .end) (m .ensures .0) (c .before .before .before .before .before .if1 .left)
+          (c .before .before .before .before .if2 .left) (c .before .if4 .left),
+      search needs,
+    )
 
 pub read-field-spec : {M : Type 1} → statement M
 read-field-spec =

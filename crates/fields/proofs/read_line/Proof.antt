@@ -1,9 +1,8 @@
-use native.Mathlib.Omega.{arith}
 use borrow.Author.Needs.{needs}
 use denote.Ref.{now}
 use Prim.Native.Nat.{ℕ, _-_}
 use mathlib.Core.Path.{sym, _∙_, ap}
-use lib.ListN.{length, drop}
+use lib.ListN.{drop}
 use Rattle.fields.specs.Code.{fieldAt}
 use Rattle.fields.proofs.Separators.{some-byte}
 use Rattle.fields.proofs.Scan.{Scanning, scanning-start, scanning-bad, scanning-on}
@@ -34,9 +33,11 @@ same-length c = let at-loop = c .before .before .before .before in let l = at-lo
 returns : tie.Need-returns Inv-loop μ-loop
 returns c = let at-loop = c .before .before .before .before in let l = at-loop .loop in let a = at-loop .before .before .before .args in
     let f = c .before .read-field in
-    let e = f .ensures .0 ∙ ap (λ (b : ℕ). fieldAt b (drop (l .at) (now (a .text)))) (c .before .before .behind .ensures) in
-    (read-bad (now (a .text)) (now (a .calls)) (a .from) (a .k) (l .calls) (l .inv .front)
-    (scanning-bad (now (a .text)) (now (a .calls)) (a .from) (a .k) (l .calls) (l .at) (l .i) (l .inv) (search needs) (f .result) e (c .if1 .taken)), search needs)
+    let e = f .ensures .0 ∙ ap (λ (b : ℕ). fieldAt b (drop (l .at) (now (a .text)))) (c .before .before .behind .ensures) in (
+      read-bad (now (a .text)) (now (a .calls)) (a .from) (a .k) (l .calls) (l .inv .front)
+          (scanning-bad (now (a .text)) (now (a .calls)) (a .from) (a .k) (l .calls) (l .at) (l .i) (l .inv) (search needs) (f .result) e (c .if1 .taken)),
+      search needs,
+    )
 
 mul-calls : tie.Need-mul-calls Inv-loop μ-loop
 mul-calls c = search needs
@@ -92,18 +93,22 @@ same-length-3 c = let at-loop = c .before .before .before .before .before in let
     l .inv .long
 
 returns-3 : tie.Need-returns-3 Inv-loop μ-loop
-returns-3 c = let at-loop = c .before .before .before .before .before in let l = at-loop .loop in let a = at-loop .before .before .before .args in
-    (read-whole (now (a .text)) (now (a .calls)) (a .from) (a .k) (l .calls) (l .at) (l .i) (l .inv) (c .before .before .before .before .loop-test .left) (search needs) (c .before .before .before .if2 .left)
-    (sym (c .before .is-call-at .ensures) ∙ c .if3 .taken), search needs)
+returns-3 c = let at-loop = c .before .before .before .before .before in let l = at-loop .loop in let a = at-loop .before .before .before .args in (
+  read-whole (now (a .text)) (now (a .calls)) (a .from) (a .k) (l .calls) (l .at) (l .i) (l .inv) (c .before .before .before .before .loop-test .left) (search needs) (c .before .before .before .if2 .left)
+      (sym (c .before .is-call-at .ensures) ∙ c .if3 .taken),
+  search needs,
+)
 
 same-length-4 : tie.Need-same-length-4 Inv-loop μ-loop
 same-length-4 c = let at-loop = c .before .before .before .before .before in let l = at-loop .loop in let a = at-loop .before .before .before .args in
     l .inv .long
 
 returns-4 : tie.Need-returns-4 Inv-loop μ-loop
-returns-4 c = let at-loop = c .before .before .before .before .before in let l = at-loop .loop in let a = at-loop .before .before .before .args in
-    (read-no-call (now (a .text)) (now (a .calls)) (a .from) (a .k) (l .calls) (l .at) (l .i) (l .inv) (c .before .before .before .before .loop-test .left) (search needs)
-    (sym (c .before .is-call-at .ensures) ∙ c .if3 .left), search needs)
+returns-4 c = let at-loop = c .before .before .before .before .before in let l = at-loop .loop in let a = at-loop .before .before .before .args in (
+  read-no-call (now (a .text)) (now (a .calls)) (a .from) (a .k) (l .calls) (l .at) (l .i) (l .inv) (c .before .before .before .before .loop-test .left) (search needs)
+      (sym (c .before .is-call-at .ensures) ∙ c .if3 .left),
+  search needs,
+)
 
 pub read-line-spec : {M : Type 1} → statement M
 read-line-spec =

@@ -21,15 +21,19 @@ shared-slice-read-b c = search needs
 
 returns : tie.Need-returns Inv-loop μ-loop
 returns c = let at-loop = c .before .before .before in
-    let l = at-loop .loop in let a = at-loop .before .before .args in
-    (numbering-stop (now (a .text)) (a .from) (l .value) (l .i) (l .inv)
-    (digits-stop (now (a .text)) (l .i) (search needs) (low-byte _ (c .if1 .taken))), l .inv .high)
+    let l = at-loop .loop in let a = at-loop .before .before .args in (
+      numbering-stop (now (a .text)) (a .from) (l .value) (l .i) (l .inv)
+          (digits-stop (now (a .text)) (l .i) (search needs) (low-byte _ (c .if1 .taken))),
+      l .inv .high,
+    )
 
 returns-2 : tie.Need-returns-2 Inv-loop μ-loop
 returns-2 c = let at-loop = c .before .before .before .before in
-    let l = at-loop .loop in let a = at-loop .before .before .args in
-    (numbering-stop (now (a .text)) (a .from) (l .value) (l .i) (l .inv)
-    (digits-stop (now (a .text)) (l .i) (search needs) (high-byte _ (c .if2 .taken))), l .inv .high)
+    let l = at-loop .loop in let a = at-loop .before .before .args in (
+      numbering-stop (now (a .text)) (a .from) (l .value) (l .i) (l .inv)
+          (digits-stop (now (a .text)) (l .i) (search needs) (high-byte _ (c .if2 .taken))),
+      l .inv .high,
+    )
 
 mul-value : tie.Need-mul-value Inv-loop μ-loop
 mul-value c = let small = c .before .before .before .before .loop .inv .small in omega arith
@@ -44,9 +48,11 @@ returns-3 : tie.Need-returns-3 Inv-loop μ-loop
 returns-3 c = let at-loop = c .before .before .before .before .before .before in
     let l = at-loop .loop in let a = at-loop .before .before .args in
     let digit = c .before in
-    let low = digit .before .before .if1 .left in let high = digit .before .if2 .left in
-    (numbering-above (now (a .text)) (a .from) (l .value) (l .i) (l .inv) (search needs) (is-digit _ low high) (digit .digit .result)
-    (digit .digit .ensures) (c .if3 .taken), l .inv .high)
+    let low = digit .before .before .if1 .left in let high = digit .before .if2 .left in (
+      numbering-above (now (a .text)) (a .from) (l .value) (l .i) (l .inv) (search needs) (is-digit _ low high) (digit .digit .result)
+          (digit .digit .ensures) (c .if3 .taken),
+      l .inv .high,
+    )
 
 add-i : tie.Need-add-i Inv-loop μ-loop
 add-i c = search needs

@@ -2,11 +2,11 @@ use native.Mathlib.Omega.{arith}
 use borrow.Author.Needs.{needs}
 use denote.Ref.{now}
 use Prim.Native.Nat.{_-_, _≤_}
-use mathlib.Core.Path.{_≡_, refl, sym, _∙_, ap}
+use mathlib.Core.Path.{_≡_, refl, _∙_, ap}
 use mathlib.Core.List.{_++_, List}
 use lib.ListN.{take, drop, length, set, getD, length-set}
 use Prim.Native.Nat.{ℕ}
-use Rattle.replay.proofs.Copying.{front-on, front-length}
+use Rattle.replay.proofs.Copying.{front-on}
 use Rattle.replay.proofs.copy.Statement.{statement}
 use Rattle.replay.proofs.copy.Tie as tie
 

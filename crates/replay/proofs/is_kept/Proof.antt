@@ -1,6 +1,4 @@
-use native.Mathlib.Omega.{arith}
 use borrow.Author.Needs.{needs}
-use denote.Ref.{now}
 use mathlib.Core.Path.{sym, _∙_}
 use Rattle.replay.proofs.Keeping.{kept-no-lines, kept-no-held, kept-no-waiting, kept-no-feed, kept-all}
 use borrow.Author.Needs.{needs}

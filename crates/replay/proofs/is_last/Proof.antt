@@ -1,4 +1,3 @@
-use borrow.Author.Tests.{ne-eqb}
 use borrow.Author.Needs.{needs}
 use borrow.Author.Needs.{needs}
 use Rattle.replay.proofs.is_last.Statement.{statement}

@@ -1,7 +1,7 @@
 use native.Mathlib.Omega.{arith}
 use borrow.Author.Needs.{needs}
 use denote.Ref.{now}
-use mathlib.Core.Path.{_≡_, sym, _∙_}
+use mathlib.Core.Path.{_≡_, sym}
 use lib.ListN.{length, replicate}
 use Rattle.sa110.specs.State.{machineIn, ranOf}
 use Rattle.answers.proofs.States.{formed-typed}

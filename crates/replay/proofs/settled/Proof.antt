@@ -2,7 +2,7 @@ use native.Mathlib.Omega.{arith}
 use borrow.Author.Needs.{needs}
 use denote.Ref.{now}
 use mathlib.Core.Path.{_∙_, sym, ap}
-use lib.ListN.{drop, length, length-drop}
+use lib.ListN.{drop, length-drop}
 use Rattle.sa110.specs.State.{machineIn}
 use Rattle.replay.specs.Parts.{padded}
 use Rattle.replay.proofs.Keeping.{settled-departing, settled-open, settled-more, to-end}

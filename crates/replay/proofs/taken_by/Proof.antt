@@ -1,5 +1,4 @@
 use borrow.Author.Tests.{ne-eqb}
-use borrow.Author.Needs.{needs}
 use Rattle.replay.proofs.taken_by.Statement.{statement}
 use Rattle.replay.proofs.taken_by.Tie as tie
 
