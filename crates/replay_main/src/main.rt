@@ -1,16 +1,28 @@
 // Replays a trace kept as text: standard input to standard output, in blocks, on 65,536 zero bytes of memory.
 ghost use lib.ListN.{length};
 ghost use Prim.Native.Nat.{_+_, _≤_};
+use libc::STDERR_FILENO;
 use libc::STDIN_FILENO;
 use libc::STDOUT_FILENO;
 use replay::Replay;
-
-const STDERR_FILENO: i32 = 2;
 
 // What is replayed, and whether to go on.
 struct Going {
     replay: Replay,
     goes: bool,
+}
+
+// Writes what a part printed, or says why the replay cannot go on.
+fn write_lines(lines: &[u8], refusal: u32) -> bool {
+    if refusal != 0 {
+        io::write_all(STDERR_FILENO, b"replay: more lines than are counted\n");
+        return false;
+    }
+    if io::write_all(STDOUT_FILENO, lines) {
+        return true;
+    }
+    os::fail(b"replay: standard output");
+    false
 }
 
 // One part from a place of a block on: the lines that it prints are written.
@@ -29,10 +41,7 @@ fn replay_from(
     let p = replay::replay_part(replay, memory, store, &block[at..], ends, out);
     let after = p.replay;
     let written = after.written;
-    let goes = io::write_all(STDOUT_FILENO, &out[..written]);
-    if !goes {
-        os::fail(b"replay: standard output");
-    }
+    let goes = write_lines(&out[..written], p.refusal);
     Going {
         replay: after,
         goes,
@@ -58,6 +67,7 @@ fn replay_block(
 ) -> Going {
     let mut replay = first;
     let mut at: usize = 0;
+    // a proved loop has to end: no block takes so many parts
     let mut turns = u64::MAX;
     while turns > 0 {
         let g = replay_from(replay, memory, store, block, at, ends, out);
@@ -137,8 +147,9 @@ fn main() {
     let mut store = [0u8; 16384];
     let mut block = [0u8; 65536];
     let mut out = [0u8; 65536];
-    let begun = replay::replay_start(&memory, &store);
-    let mut replay = begun.replay;
+    let started = replay::replay_start(&memory, &store);
+    let mut replay = started.replay;
+    // a proved loop has to end: no input has so many blocks
     let mut turns = u64::MAX;
     while turns > 0 {
         let g = replay_input(replay, &mut memory, &mut store, &mut block, &mut out);
