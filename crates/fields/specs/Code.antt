@@ -23,10 +23,11 @@ pub record Reads (digits : List ℕ) (from value end : ℕ) : Type 0 where
   pub whole : value ≤ 0xFFFFFFFF → (value ≡ valueOf digits) × (end ≡ from + length digits)
   pub above : 0xFFFFFFFF < value → 0xFFFFFFFF < valueOf digits
 
--- the field at the front of a text, with the byte `by` behind it: its number and its bytes with that one; all zeros where there is none
+-- a field's number, and how many bytes it has with the byte behind it
 abbrev pub fieldFrom : ℕ → ℕ → Field
 fieldFrom value size = record { value = value; size = size }
 
+-- the field at the front of a text, with the byte `by` behind it; all zeros where there is none
 unfoldable pub fieldAt : ℕ → List ℕ → Field
 fieldAt by text =
     let digits = digitsOf text in

@@ -38,7 +38,7 @@ unfoldable pub fieldsOf : List ℕ → List (List ℕ)
 fieldsOf [] = [] ∷ []
 fieldsOf (b ∷ bs) = cond (eqb b comma) ([] ∷ fieldsOf bs) (ontoField b (fieldsOf bs))
 
--- a decimal digit, and the number of a list of digits, behind those that count `n`
+-- a decimal digit; the number of a list of digits, where those before them are the number n
 abbrev pub isDigit : ℕ → Bool
 isDigit b = leb zeroDigit b && leb b 57
 

@@ -16,12 +16,12 @@ firstLine (b ∷ bs) = cond (eqb b lineFeed) (lineFrom [] true) (lineFrom (b ∷
 abbrev pub sizeOf : Line → ℕ
 sizeOf l = length (l .bytes) + 1
 
--- A first line is decided when it has ended, or has 64 bytes without an end, or the text has something and ends here: what comes behind cannot change whether it
+-- A first line is decided when it has ended, or has 64 bytes without an end, or the text is not empty and ends here: what comes behind cannot change whether it
 -- departs.
 unfoldable pub decided : Bool → List ℕ → Bool
 decided ends text = firstLine text .ended || leb 64 (length (firstLine text .bytes)) || (ends && leb 1 (length text))
 
--- what comes behind the lines: more lines, a line that is not decided, or a line that departs
+-- what comes behind the lines: lines that may come, a line that is not decided, or a line that departs
 abbrev pub more : ℕ
 more = 0
 
@@ -45,7 +45,7 @@ parsedFrom numbers made end verdict = record { numbers = numbers; made = made; e
 abbrev pub withLine : Line → Parsed → Parsed
 withLine l p = parsedFrom (numbersIn l ++ p .numbers) (p .made + 1) (sizeOf l + p .end) (p .verdict)
 
--- at most n lines of a text, which `ends` here or may go on
+-- at most n lines of a text; the text `ends` here or may go on
 unfoldable pub parse : Bool → ℕ → List ℕ → Parsed
 parse ends zero text = parsedFrom [] 0 0 more
 parse ends (suc n) text =

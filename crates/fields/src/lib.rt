@@ -17,14 +17,14 @@ const FEED: u8 = 10;
 
 const COMMA: u8 = 44;
 
-// What comes behind the lines read: more lines, a line that is not decided, or a line that departs.
+// What comes behind the lines read: lines that may come, a line that is not decided, or a line that departs.
 pub const MORE: u32 = 0;
 
 pub const OPEN: u32 = 1;
 
 pub const DEPARTS: u32 = 2;
 
-// A number, and the place behind its digits.
+// A number, and the place behind its digits; or one above that of any field, and the place of the digit that makes it so.
 pub struct Number {
     pub value: u64,
     pub end: usize,
@@ -129,7 +129,7 @@ fn read_line(text: &[u8], from: usize, calls: &mut [u32], k: usize) -> usize
 }
 
 // Whether the line at a place has ended, or has 64 bytes without an end.
-fn is_long(text: &[u8], from: usize) -> bool
+fn is_decided(text: &[u8], from: usize) -> bool
     requires { ⌜ from ≤ length (now text) ⌝ }
     ensures { λ r. ⌜ r ≡ (parses.firstLine (drop from (now (text .entry))) .ended
         || leb 64 (length (parses.firstLine (drop from (now (text .entry))) .bytes))) ⌝ }
@@ -149,12 +149,12 @@ fn is_long(text: &[u8], from: usize) -> bool
     true
 }
 
-// What comes at a place where no line is that does not depart.
+// What comes at a place whose line, as far as the text goes, has not the form of a line: one that departs, or one that is not decided.
 fn verdict(text: &[u8], from: usize, ends: bool) -> u32
     requires { ⌜ from ≤ length (now text) ⌝ }
     ensures { λ r. ⌜ r ≡ cond (parses.decided ends (drop from (now (text .entry)))) parses.departing parses.open-line ⌝ }
 {
-    if is_long(text, from) {
+    if is_decided(text, from) {
         return DEPARTS;
     }
     if ends {

@@ -22,7 +22,7 @@ pub record Laid (before after : List ℕ) (at end most : ℕ) (bytes : List ℕ)
   pub ends : end ≡ at + length bytes
   pub short : length bytes ≤ most
 
--- 32 bits, of a signed number from 2^31 on negative
+-- a value of 32 bits in decimal; that of a signed load is negative from 2^31 on
 abbrev pub valueText : Bool → ℕ → List ℕ
 valueText signed v = cond (signed && leb 0x80000000 v) (minus ∷ decimal (kindUnit - v)) (decimal v)
 

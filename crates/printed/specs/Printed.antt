@@ -10,7 +10,7 @@ use Rattle.values.specs.declared.Answer.{Answer}
 use Rattle.values.specs.declared.Answer.the-variants as answer
 use Rattle.trace.specs.Codes.{numbersOf}
 
--- the bytes that are no digits
+-- the bytes that are printed beside digits
 abbrev pub lineFeed : ℕ
 lineFeed = 10
 

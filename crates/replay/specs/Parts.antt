@@ -41,18 +41,19 @@ waitingBytes h = take (h .waiting) (h .pending)
 abbrev pub padded : List ℕ → List ℕ
 padded bytes = bytes ++ replicate (64 - length bytes) 0
 
--- the most lines that are counted, and the fields that a part leaves: fewer than 64 bytes of a line, no line feed among them
+-- the most lines behind which a part is not refused
 abbrev pub linesLimit : ℕ
 linesLimit = 0x7FFFFFFFFFFFFFFF
 
 abbrev pub isFeed : ℕ → Bool
 isFeed b = eqb b lineFeed
 
+-- what a part asks of the fields: those lines at most, fewer than 64 bytes of a line and no line feed among them, and no more bytes that wait than 64
 unfoldable pub kept : ℕ → ℕ → ℕ → List ℕ → Bool
 kept lines held waiting begun =
     leb lines linesLimit && (leb held 63 && (leb waiting 64 && not (any isFeed (take held begun))))
 
--- what a part leaves: what is held, how much of the text was taken and how much of the slice written, the slice, and 3 where the part is refused
+-- what a part leaves: what is held, how much of the text was taken and how much of the slice written, the slice, and its refusal: 3, or that of a start
 pub record Parted : Type 0 where
   pub replay : Held
   pub taken : ℕ

@@ -19,7 +19,7 @@ refused13 = answer.Refused 13 ∷ []
 
 -- on any machine, by its step
 module _ {S : Type 0} (step : S → Call → S) (answers : S → Call → Answer) where
-  -- what the lines of a text are answered: each call, on the machine that the call before it left, up to a line that departs
+  -- what the lines of a text are answered: each call on the machine that the call before it left, up to a line that departs, which is refused by 13
   unfoldable pub lineAnswers : S → List Line → List Answer
   lineAnswers s lines = answersOf step answers s (callsOf lines) ++ cond (departs lines) refused13 []
 
@@ -31,9 +31,13 @@ module _ {S : Type 0} (step : S → Call → S) (answers : S → Call → Answer
 abbrev pub replayFrom : Machine → List ℕ → List ℕ
 replayFrom m text = prints next answered m 1 text
 
--- "Memory is 65,536 zero bytes." The cache store is zero bytes, too.
+-- "Memory is 65,536 zero bytes."
+abbrev pub zeroMemory : List ℕ
+zeroMemory = replicate 65536 0
+
+-- a start on them, with a cache store of zero bytes
 abbrev pub zeroMachine : Machine
-zeroMachine = started (replicate 65536 0) (replicate 16384 0) .machine
+zeroMachine = started zeroMemory (replicate 16384 0) .machine
 
 abbrev pub replay : List ℕ → List ℕ
 replay text = replayFrom zeroMachine text

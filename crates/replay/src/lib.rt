@@ -15,7 +15,7 @@ use values::Cp15;
 // The most lines that one part replays.
 const BATCH: usize = 1024;
 
-// The most lines that are counted.
+// The most lines behind which a part is not refused.
 const LINES: u64 = 0x7FFFFFFFFFFFFFFF;
 
 // The code of a refusal by 13.
@@ -36,7 +36,7 @@ pub struct Replay {
     pub written: usize,
 }
 
-// What a part leaves beside the lent lists: 3 where it is refused, else 0.
+// What a part or a start leaves beside the lent lists: the refusal is 3 of a part, 1 or 2 of a start, else 0.
 pub struct Part {
     pub replay: Replay,
     pub refusal: u32,
@@ -92,7 +92,7 @@ fn has_feed(bytes: &[u8], n: usize) -> bool
     false
 }
 
-// Whether the record's fields are ones that a part leaves.
+// Whether a part is not refused, by the record's fields.
 fn is_kept(lines: u64, held: usize, waiting: usize, begun: [u8; 64]) -> bool
     ensures { λ r. ⌜ r ≡ spec.kept lines held waiting begun ⌝ }
 {
@@ -205,12 +205,12 @@ fn settled(b: Batch, lines: u64, text: &[u8]) -> Replay
         taken: 0,
         written: 0,
     };
-    if b.verdict == 2 {
+    if b.verdict == fields::DEPARTS {
         r.lines = lines + b.made as u64 + 1;
         r.stopped = 1;
         return r;
     }
-    if b.verdict == 1 {
+    if b.verdict == fields::OPEN {
         let begun = padded(text, b.end, text.len());
         r.held = text.len() - b.end;
         r.begun = begun;
@@ -219,7 +219,7 @@ fn settled(b: Batch, lines: u64, text: &[u8]) -> Replay
     r
 }
 
-// The line of a line that departed, where one did, laid behind the others; the place behind them all.
+// Where a line departed, what is printed of it, laid behind the others; the place behind them all.
 fn put_departed(out: &mut [u8], at: usize, line: u64, verdict: u32) -> usize
     requires { ⌜ (line < 10000000000000000000) × (verdict ≡ 2 → at + 34 ≤ length (now out)) ⌝ }
     ensures { λ r. ⌜ code.Departed (now (out .entry)) (now (out .exit)) at r line verdict ⌝ }
@@ -264,7 +264,7 @@ fn replay_lines(
     }
 }
 
-// Whether a text ends with the n bytes of it that were taken.
+// Whether a text of n bytes ends and all of it was taken.
 fn is_last(ends: bool, taken: usize, n: usize) -> bool
     ensures { λ r. ⌜ r ≡ (ends && eqb taken n) ⌝ }
 {

@@ -1,8 +1,8 @@
 use Rattle.fields.proofs.Within.{Looking, looking-start, looking-none, looking-end, looking-feed, looking-on}
 use borrow.Author.Needs.{needs}
 use denote.Ref.{now}
-use Rattle.fields.proofs.is_long.Statement.{statement}
-use Rattle.fields.proofs.is_long.Tie as tie
+use Rattle.fields.proofs.is_decided.Statement.{statement}
+use Rattle.fields.proofs.is_decided.Tie as tie
 
 abbrev Inv-loop : tie.InvT-loop
 Inv-loop text from i₀ left₀ i left = Looking text from i left
@@ -44,8 +44,8 @@ returns-3 : tie.Need-returns-3 Inv-loop μ-loop
 returns-3 c = let l = c .before .loop in let a = c .before .before .args in
     looking-none (now (a .text)) (a .from) (l .i) (l .left) (l .inv) (c .loop-test .left)
 
-pub is-long-spec : {M : Type 1} → statement M
-is-long-spec =
+pub is-decided-spec : {M : Type 1} → statement M
+is-decided-spec =
     tie.close
     (tie.spec
     Inv-loop
