@@ -15,15 +15,7 @@ use Rattle.trace.specs.Calls.{isCallAt}
 use Rattle.fields.specs.Lines.{Line, fieldsOf, valueOf, isField, numbersIn, isLine}
 use Rattle.fields.specs.Parse.{firstLine, sizeOf, decided, departing, open-line, Parsed, parse}
 use Rattle.fields.specs.Code.{LineRead, LinesRead}
-
--- a line that does not depart has five numbers
-pub line-five : (l : Line) → isLine l ≡ true → length (numbersIn l) ≡ 5
-unfolding isLine
-line-five l t =
-    let fs = fieldsOf (l .bytes) in
-    let a = and-right (l .ended) (leb (length (l .bytes) + 1) 64 && (eqb (length fs) 5 && (all isField fs && isCallAt (numbersIn l) 0))) t in
-    let b = and-right (leb (length (l .bytes) + 1) 64) (eqb (length fs) 5 && (all isField fs && isCallAt (numbersIn l) 0)) a in
-    length-map fs valueOf ∙ eqb-true (length fs) 5 (and-left (eqb (length fs) 5) (all isField fs && isCallAt (numbersIn l) 0) b)
+use Rattle.fields.proofs.First.{line-five}
 
 -- what holds before each turn of the loop: the lines read, and those still to be read, are the whole
 pub record Parsing (ends : Bool) (n : ℕ) (text calls₀ calls : List ℕ) (at k : ℕ) : Type 0 where

@@ -12,6 +12,7 @@ use Rattle.values.specs.Lists.{any}
 use Rattle.values.proofs.Cases.{case, and-left, and-right}
 use Rattle.printed.specs.Printed.{printed}
 use Rattle.fields.specs.Parse.{firstLine, sizeOf, Parsed, parse, more}
+use Rattle.fields.proofs.First.{first-goes-on, no-feed-open, parse-within}
 use Rattle.step.specs.Run.{next, answered}
 use Rattle.replay.specs.Replay.{prints}
 use Rattle.replay.specs.Parts as parts
@@ -32,7 +33,6 @@ use Rattle.replay.specs.Parts.{
   part,
 }
 use Rattle.replay_terms.specs.Uses.{wrote, toPrint}
-use Rattle.replay_terms.proofs.FirstLines.{first-behind}
 use Rattle.replay_terms.proofs.Reading.{Reads, reads, past-first}
 use Rattle.replay_terms.proofs.Printing.{prints-read, restOf, put-printed, rest-departing, rest-open, rest-more}
 
@@ -142,7 +142,7 @@ module _ (ends : Bool) (n : ℕ) (h : Held) (text z out : List ℕ) (none : ends
   pub by-departing : p .verdict ≡ 2 → prints next answered (h .machine) (h .lines + 1) (t ++ z) ≡ bytes ++ after
   by-departing e =
       let a = rest-departing (machineAfter (h .machine) p) (h .lines) (p .made) (p .verdict) behind (drop taken (text ++ z)) e in
-      prints-read next answered (h .machine) (h .lines + 1) ends n t z p read
+      prints-read next answered (h .machine) (h .lines + 1) ends n t z read
       ∙ ap (λ (v : ℕ). bytes ++ cond (eqb v 2) [] (prints next answered (machineAfter (h .machine) p) (h .lines + 1 + p .made) (behind ++ z))) e
       ∙ ap (λ (l : List ℕ). bytes ++ l) (sym a)
 
@@ -151,7 +151,7 @@ module _ (ends : Bool) (n : ℕ) (h : Held) (text z out : List ℕ) (none : ends
       → prints next answered (h .machine) (h .lines + 1) (t ++ z) ≡ bytes ++ after
   by-left v e f a =
       let g : eqb (p .verdict) 2 ≡ false = ap (λ (k : ℕ). eqb k 2) e ∙ f in
-      prints-read next answered (h .machine) (h .lines + 1) ends n t z p read
+      prints-read next answered (h .machine) (h .lines + 1) ends n t z read
       ∙ ap (λ (b : Bool). bytes ++ cond b [] (prints next answered (machineAfter (h .machine) p) (h .lines + 1 + p .made) (behind ++ z))) g
       ∙ ap (λ (l : List ℕ). bytes ++ l) (sym a)
 
@@ -182,7 +182,8 @@ module _ (ends : Bool) (n : ℕ) (h : Held) (text z out : List ℕ) (none : ends
         let v : parse ends (suc (n - 1)) t .verdict ≡ more = ap (λ (x : Parsed). x .verdict) (sym q) ∙ e in
         let w = past-first ends (n - 1) t v in
         let x : p .end ≡ parse ends (suc (n - 1)) t .end = ap (λ (x : Parsed). x .end) q in
-        let y : sizeOf (firstLine t) ≡ length (begunLine h ++ firstLine text .bytes) + 1 = ap sizeOf (first-behind (begunLine h) text k) in
+        let f = first-goes-on (begunLine h) text (no-feed-open (begunLine h) k) in
+        let y : sizeOf (firstLine t) ≡ length (begunLine h ++ firstLine text .bytes) + 1 = ap sizeOf f in
         let u = length-append (begunLine h) (firstLine text .bytes) in
         omega arith
 
@@ -194,7 +195,7 @@ module _ (ends : Bool) (n : ℕ) (h : Held) (text z out : List ℕ) (none : ends
         let j = p .end - length b in
         let a : behind ≡ drop j text =
         (let x : p .end ≡ length b + j = omega arith in ap (λ (i : ℕ). drop i t) x ∙ drop-append-add b text j) in
-        let i = read .inside in
+        let i = parse-within ends n t in
         let c = length-append b text in
         let d = length-drop (p .end) t in
         let l : taken ≡ j = ap (λ (v : ℕ). length text - parts.left v behind) e ∙ omega arith in

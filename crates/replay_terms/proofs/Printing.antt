@@ -15,7 +15,8 @@ use Rattle.trace.specs.Fold.{answersOf, finalOf}
 use Rattle.trace.proofs.Folds.{answers-append, answers-long}
 use Rattle.printed.specs.Printed.{lineOf, printed}
 use Rattle.fields.specs.Lines.{linesOf, callsOf, departs}
-use Rattle.fields.specs.Parse.{departing, Parsed}
+use Rattle.fields.specs.Parse.{departing, Parsed, parse}
+use Rattle.fields.proofs.Calls.{parse-calls}
 use Rattle.machine.specs.Machine.{Machine}
 use Rattle.step.specs.Run.{next, answered}
 use Rattle.replay.specs.Replay.{refused13, lineAnswers, prints}
@@ -46,8 +47,11 @@ answers-counted step answer s cs b =
 
 -- ---- a text of which lines were read
 
-module _ {S : Type 0} (step : S → Call → S) (answer : S → Call → Answer) (s : S) (i : ℕ) (ends : Bool) (n : ℕ) (t z : List ℕ) (p : Parsed)
-    (r : Reads ends n t z p) where
+module _ {S : Type 0} (step : S → Call → S) (answer : S → Call → Answer) (s : S) (i : ℕ) (ends : Bool) (n : ℕ) (t z : List ℕ)
+    (r : Reads ends n t z (parse ends n t)) where
+  abbrev p : Parsed
+  p = parse ends n t
+
   -- the answers of the lines read
   abbrev given : List Answer
   given = answersOf step answer s (callsRead p) ++ cond (eqb (p .verdict) departing) refused13 []
@@ -76,7 +80,7 @@ module _ {S : Type 0} (step : S → Call → S) (answer : S → Call → Answer)
       let d : departs (linesOf (t ++ z)) ≡ departs ls = r .departed ∙ rw h in
       let front = answersOf step answer s cs in
       let back = answersOf step answer (finalOf step answer s cs) (callsOf ls) in
-      let l : length front ≡ p .made = answers-long step answer s cs ∙ r .long in
+      let l : length front ≡ p .made = answers-long step answer s cs ∙ parse-calls ends n t in
       rw (h, c, d, append-nil front)
       (ap (λ (x : List Answer). printed i (x ++ cond (departs ls) refused13 [])) (answers-append step answer s cs (callsOf ls))
       ∙ ap (printed i) (append-assoc front back (cond (departs ls) refused13 []))

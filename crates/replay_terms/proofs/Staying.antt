@@ -15,6 +15,8 @@ use Rattle.printed.specs.Printed.{printed}
 use Rattle.printed.proofs.Decimal.{decimal-ten}
 use Rattle.fields.specs.Lines.{linesOf, callsOf}
 use Rattle.fields.specs.Parse.{firstLine, decided, departing, Parsed, parse}
+use Rattle.fields.proofs.First.{undecided, parse-few}
+use Rattle.fields.proofs.Calls.{parse-calls, parse-room, open-short}
 use Rattle.machine.specs.Machine.{Machine}
 use Rattle.soundness_test.specs.Formed.{Formed}
 use Rattle.soundness_laws.proofs.LowBytes.{bytes-zeros}
@@ -44,7 +46,7 @@ use Rattle.replay.specs.Parts.{
 }
 use Rattle.replay_terms.specs.Uses.{Use, endsWith, used, IsKept, Well, StaysWell, StaysKept, StartsWell}
 use Rattle.replay_terms.specs.Printed.{zeros}
-use Rattle.replay_terms.proofs.FirstLines.{first-open, open-feedless, undecided}
+use Rattle.replay_terms.proofs.FirstLines.{open-feedless}
 use Rattle.replay_terms.proofs.Reading.{callsRead, Reads, reads}
 use Rattle.replay_terms.proofs.Printing.{answers-counted, front-padded}
 use Rattle.replay_terms.proofs.OnePart.{
@@ -130,12 +132,7 @@ none-carried = record { few = omega arith; feedless = refl }
 
 -- a line that is not decided
 open-carried : (ends : Bool) (behind : List ℕ) → decided ends behind ≡ false → Carried behind
-open-carried ends behind d =
-    let u = undecided ends behind d in
-    let o = first-open behind (u .0) in
-    let l : length (firstLine behind .bytes) ≡ length behind = ap length o in
-    let f = leb-false 64 (length (firstLine behind .bytes)) (u .1) in
-    record { few = omega arith; feedless = open-feedless behind (u .0) }
+open-carried ends behind d = record { few = open-short ends behind d; feedless = open-feedless behind (undecided ends behind d .0) }
 
 -- by the verdict
 carried-by : (ends : Bool) (v : ℕ) (behind : List ℕ) → v ≤ 2 → (v ≡ 1 → decided ends behind ≡ false) → Carried (carried v behind)
@@ -185,14 +182,14 @@ module _ (ends : Bool) (n : ℕ) (h : Held) (text out : List ℕ) (f : stateRefu
   answers-few : p .made + stops (p .verdict) ≤ n
   answers-few =
       let r = read in
-      let few = r .few in
-      verdict-cases (p .verdict) (r .one-of) (λ e. rw e (omega arith)) (λ e. rw e (omega arith)) (λ e. let g = r .fewer e in rw e (omega arith))
+      let few = parse-few ends n t in
+      verdict-cases (p .verdict) (r .one-of) (λ e. rw e (omega arith)) (λ e. rw e (omega arith)) (λ e. let g = parse-room ends n t e in rw e (omega arith))
 
   -- they have at most 34 bytes each
   bytes-short : h .lines + p .made + stops (p .verdict) ≤ linesLimit → length bytes ≤ n * 34
   bytes-short l =
       let c = answers-counted next answered (h .machine) (callsRead p) (eqb (p .verdict) departing) in
-      let k = read .long in
+      let k = parse-calls ends n t in
       let g = answers-few in
       let s = printed-short (h .lines + 1) (parsedAnswers (h .machine) p) answers-short (omega arith) in
       omega arith
