@@ -19,11 +19,11 @@ use Rattle.fields.proofs.Calls.{parse-calls}
 use Rattle.step.specs.Run.{next, answered}
 use Rattle.replay.specs.Replay.{prints}
 use Rattle.replay.specs.Parts.{Held, begunLine, waitingBytes, isFeed, kept, Parted, putOut, linesAtMost, machineAfter, parsedAnswers, replayed}
+use Rattle.replay.proofs.Keeping.{kept-means}
 use Rattle.replay_terms.specs.Uses.{Use, endsWith, used, fed, toPrint, WaitingThere, IsKept, NothingComes, GoesOn, Repeated}
 use Rattle.replay_terms.proofs.Reading.{callsRead}
 use Rattle.replay_terms.proofs.Printing.{restOf, answers-counted}
 use Rattle.replay_terms.proofs.OnePart.{
-  kept-means,
   some-lines,
   part-refused,
   part-waiting,
@@ -124,7 +124,7 @@ module _ (h : Held) (left : List ℕ) (u : Use) (k : IsKept h) (there : WaitingT
       let b = bytes ends n h t (drop (u .offered) left) (u .slice) none in
       let e : used h left u ≡ replayed ends n h t (u .slice) = part-replayed ends h t (u .slice) k w s in
       let o = none-put _ b (u .slice) _ (c .room) (ap (λ (r : Parted). r .written) (sym e) ∙ c .none-written) in
-      let f = kept-means (h .lines) (h .held) (h .waiting) (h .begun) k .feedless in
+      let f = kept-means (h .lines) (h .held) (h .waiting) (h .begun) k .no-feed in
       sym (whole-text h left u w s)
       ∙ prints-nothing ends (c .ends) n h t (drop (u .offered) left) (u .slice) none (some-lines (h .held) (length (u .slice))) f (no-elements b o)
 

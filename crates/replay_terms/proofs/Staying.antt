@@ -44,14 +44,14 @@ use Rattle.replay.specs.Parts.{
   settled,
   replayed,
 }
+use Rattle.replay.proofs.Keeping.{kept-all, kept-means}
+use Rattle.replay.proofs.Parting.{roomy}
 use Rattle.replay_terms.specs.Uses.{Use, endsWith, used, IsKept, Well, StaysWell, StaysKept, StartsWell}
 use Rattle.replay_terms.specs.Printed.{zeros}
 use Rattle.replay_terms.proofs.FirstLines.{open-feedless}
 use Rattle.replay_terms.proofs.Reading.{callsRead, Reads, reads}
 use Rattle.replay_terms.proofs.Printing.{answers-counted, front-padded}
 use Rattle.replay_terms.proofs.OnePart.{
-  kept-means,
-  kept-so,
   part-waiting,
   part-stopped,
   part-replayed,
@@ -80,9 +80,7 @@ numbers-front (c ∷ cs) ds n = (n .0, numbers-front cs ds (n .1))
 put-kept : (h : Held) (bytes out : List ℕ) (taken : ℕ) → h .lines ≤ linesLimit → h .held ≤ 63 → any isFeed (begunLine h) ≡ false
     → length bytes - min (length bytes) (length out) ≤ 64 → IsKept (putOut h bytes out taken .replay)
 unfolding putOut
-put-kept h bytes out taken l k f w =
-    kept-so (h .lines) (h .held) (length bytes - min (length bytes) (length out)) (h .begun)
-    (record { few-lines = l; few-held = k; few-waiting = w; feedless = f })
+put-kept h bytes out taken l k f w = sym (kept-all (h .lines) (h .held) (length bytes - min (length bytes) (length out)) (h .begun) l k w f)
 
 -- lines, machine and refusal behind bytes put out
 put-lines : (h : Held) (bytes out : List ℕ) (taken : ℕ) → putOut h bytes out taken .replay .lines ≡ h .lines
@@ -234,7 +232,7 @@ module _ (ends : Bool) (n : ℕ) (h : Held) (text out : List ℕ) (f : stateRefu
 few-wait : (held room k : ℕ) → k ≤ linesAtMost held room * 34 → k - min k room ≤ 64
 few-wait held room k =
     case (eqb held 0 && leb 34 room)
-    (λ t. let r = leb-true 34 room (and-right (eqb held 0) (leb 34 room) t) in rw t (λ h. omega arith))
+    (λ t. let r = roomy held room t .1 in rw t (λ h. omega arith))
     (λ t. rw t (λ h. omega arith))
 
 -- ---- a part
@@ -249,8 +247,8 @@ module _ (h : Held) (left : List ℕ) (u : Use) (g : Well h) where
       let k = kept-means (h .lines) (h .held) (h .waiting) (h .begun) (g .is-kept) in
       let e = part-waiting (endsWith u left) h offer (u .slice) (g .is-kept) w in
       let l = length-take (h .waiting) (h .pending) in
-      let few = k .few-waiting in
-      subst StaysWell (sym e) (put-stays h (waitingBytes h) (u .slice) 0 (k .few-lines) (k .few-held) (k .feedless) (omega arith) (g .formed))
+      let few = k .waiting-low in
+      subst StaysWell (sym e) (put-stays h (waitingBytes h) (u .slice) 0 (k .lines-low) (k .held-low) (k .no-feed) (omega arith) (g .formed))
 
   -- a line departed
   stays-stopped : eqb (h .waiting) 0 ≡ true → eqb (h .stopped) 0 ≡ false → StaysWell (used h left u)
@@ -289,7 +287,6 @@ starts-well h n e =
     let b = n .none-begun in
     let w = n .none-waiting in
     record {
-      is-kept = kept-so (h .lines) (h .held) (h .waiting) (h .begun)
-          (record { few-lines = omega arith; few-held = omega arith; few-waiting = omega arith; feedless = rw b });
+      is-kept = sym (kept-all (h .lines) (h .held) (h .waiting) (h .begun) (omega arith) (omega arith) (omega arith) (rw b));
       formed = λ z. subst Formed (sym e) zero-formed;
     }

@@ -4,8 +4,7 @@ use mathlib.Core.Bool.{Bool, true, false, cond}
 use mathlib.Core.Path.{_≡_}
 use mathlib.Core.List.{List, [], _∷_, _++_}
 use lib.ListN.{length, replicate}
-use Rattle.values.specs.declared.Kind.{Kind}
-use Rattle.values.specs.declared.Kind.the-variants.{Load, SignedLoad, Store}
+use Rattle.values.specs.Kinds.{isStore}
 use Rattle.values.specs.declared.Call.{Call}
 use Rattle.values.specs.declared.Call.the-variants.{Read, Write}
 use Rattle.values.specs.declared.Call.the-variants as calls
@@ -72,11 +71,6 @@ ThirteenLast = (m : Machine) (lines : List Line) → ThirteenOnce m lines
 -- ---- stores and writes
 
 -- a store or a CP15 write
-abbrev pub isStore : Kind → Bool
-isStore Load = false
-isStore SignedLoad = false
-isStore (Store v) = true
-
 abbrev pub storesOrWrites : Call → Bool
 storesOrWrites (calls.Access a) = isStore (a .kind)
 storesOrWrites (Read t) = false
