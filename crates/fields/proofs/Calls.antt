@@ -2,18 +2,17 @@
 use Prim.Native.Nat.{ℕ, zero, suc, _+_, _*_, _≤_, _<_}
 use native.Mathlib.Omega.{arith}
 use native.Mathlib.Nat.{add-zero}
-use mathlib.Core.Bool.{Bool, true, false, _&&_, _||_}
+use mathlib.Core.Bool.{Bool, true, false, _&&_}
 use mathlib.Core.Path.{_≡_, refl, sym, _∙_, ap}
 use mathlib.Core.List.{List, [], _∷_, _++_, map}
-use lib.Dec.{eqb, leb}
+use lib.Dec.{leb}
 use lib.ListN.{length, getD, drop, length-append, length-drop, List·getD-append}
 use lib.Seq.{getD-append-add}
 use borrow.Author.Tests.{leb-true, leb-false}
 use Rattle.values.specs.Lists.{all}
-use Rattle.values.proofs.Cases.{case, and-left, and-right, or-none}
+use Rattle.values.proofs.Cases.{case, and-left, and-right}
 use Rattle.trace.specs.Calls.{callAt, isCall, isCallAt}
 use Rattle.trace.specs.Fold.{callsIn}
-use Rattle.printed.specs.Printed.{lineFeed}
 use Rattle.fields.specs.Lines.{Line, fieldsOf, isDigit, valueOf, isField, numbersIn, isLine}
 use Rattle.fields.specs.Parse.{firstLine, sizeOf, decided, Parsed, parse}
 use Rattle.fields.proofs.First.{first-open, line-stands, line-five, undecided}

@@ -9,3 +9,4 @@ pub mod LineRead
 pub mod First
 pub mod Parsing
 pub mod Calls
+pub mod ReadBack

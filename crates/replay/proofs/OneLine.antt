@@ -1,16 +1,16 @@
 -- A line begun, with what belongs to it of the text behind it: it is the first line of both, and what is parsed of it is what is parsed of both.
 use Prim.Native.Nat.{ℕ, zero, suc, _+_, _-_, _≤_}
 use native.Mathlib.Omega.{arith}
-use mathlib.Core.Bool.{Bool, true, false, cond, _&&_, _||_, and-true}
+use mathlib.Core.Bool.{Bool, true, false, cond, _&&_, and-true}
 use mathlib.Core.Logic.{_⊎_, inl, inr, ⊎-elim}
 use mathlib.Core.Path.{_≡_, refl, sym, _∙_, ap}
 use mathlib.Core.List.{List, [], _∷_, _++_, append-assoc, append-nil}
-use lib.Dec.{eqb, leb}
+use lib.Dec.{eqb}
 use lib.ListN.{length, drop, length-append, length-drop, drop-of-length-le}
 use lib.Seq.{drop-append-seam}
-use borrow.Author.Tests.{eq-eqb, le-leb, lt-leb}
+use borrow.Author.Tests.{eq-eqb}
 use Rattle.values.specs.Lists.{any}
-use Rattle.values.proofs.Cases.{case, clash, or-left, or-right, and-false}
+use Rattle.values.proofs.Cases.{case, clash}
 use Rattle.printed.specs.Printed.{lineFeed}
 use Rattle.fields.specs.Lines.{Line, lineFrom, isLine}
 use Rattle.fields.specs.Parse.{firstLine, sizeOf, decided, more, open-line, departing, Parsed, parsedFrom, withLine, parse}

@@ -11,8 +11,8 @@ use borrow.Author.Tests.{leb-false, eqb-false}
 use Rattle.values.specs.Lists.{any}
 use Rattle.values.specs.declared.Answer.{Answer}
 use Rattle.values.proofs.Cases.{case, and-no}
-use Rattle.printed.specs.Printed.{printed}
-use Rattle.printed.proofs.Told.{feeds, lines-counted}
+use Rattle.printed.specs.Printed.{printed, feeds}
+use Rattle.printed.proofs.Told.{lines-counted}
 use Rattle.fields.specs.Parse.{Parsed, parse}
 use Rattle.fields.proofs.First.{undecided}
 use Rattle.fields.proofs.Calls.{parse-calls}

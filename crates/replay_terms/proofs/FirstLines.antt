@@ -1,17 +1,16 @@
 -- The first line of a text and the lines behind it, and a decided first line of a text that goes on.
 use Prim.Native.Nat.{ℕ, suc, _+_, _≤_}
 use native.Mathlib.Omega.{arith}
-use mathlib.Core.Bool.{Bool, true, false, _&&_, _||_}
+use mathlib.Core.Bool.{Bool, true, false, _&&_}
 use mathlib.Core.Path.{_≡_, refl, _∙_, ap}
 use mathlib.Core.List.{List, [], _∷_, _++_, append-nil}
 use lib.Dec.{eqb, leb}
 use lib.ListN.{length, drop, length-append}
-use borrow.Author.Tests.{leb-true, lt-leb}
-use Rattle.values.specs.Lists.{any, all}
-use Rattle.values.proofs.Cases.{case, clash, and-left, and-false, and-right, or-none}
-use Rattle.trace.specs.Calls.{isCallAt}
+use borrow.Author.Tests.{leb-true}
+use Rattle.values.specs.Lists.{any}
+use Rattle.values.proofs.Cases.{case, clash, and-left, and-right}
 use Rattle.printed.specs.Printed.{lineFeed}
-use Rattle.fields.specs.Lines.{Line, lineFrom, ontoLine, linesOf, fieldsOf, isField, numbersIn, isLine}
+use Rattle.fields.specs.Lines.{lineFrom, ontoLine, linesOf, isLine}
 use Rattle.fields.specs.Parse.{firstLine, sizeOf, decided}
 use Rattle.fields.proofs.First.{first-ended, first-open, first-goes-on, first-within, long-departs}
 use Rattle.replay.specs.Parts.{isFeed}

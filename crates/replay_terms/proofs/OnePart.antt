@@ -1,7 +1,7 @@
 -- One part: what it writes, and what is then to be printed, is what was to be printed.
 use Prim.Native.Nat.{ℕ, zero, suc, _+_, _-_, _≤_}
 use native.Mathlib.Omega.{arith}
-use mathlib.Core.Bool.{Bool, true, false, cond, not, _&&_}
+use mathlib.Core.Bool.{Bool, true, false, cond, _&&_}
 use mathlib.Core.Path.{_≡_, refl, sym, _∙_, ap}
 use mathlib.Core.List.{List, [], _++_}
 use lib.Dec.{eqb, leb}
@@ -9,7 +9,7 @@ use lib.ListN.{length, take, drop, length-append, length-drop}
 use lib.Seq.{drop-append-le, drop-append-add, drop-append-seam}
 use borrow.Author.Tests.{eqb-true, eqb-false}
 use Rattle.values.specs.Lists.{any}
-use Rattle.values.proofs.Cases.{case, and-left, and-right}
+use Rattle.values.proofs.Cases.{case}
 use Rattle.printed.specs.Printed.{printed}
 use Rattle.fields.specs.Parse.{firstLine, sizeOf, Parsed, parse, more}
 use Rattle.fields.proofs.First.{first-goes-on, no-feed-open, parse-within}
@@ -20,7 +20,6 @@ use Rattle.replay.specs.Parts.{
   Held,
   begunLine,
   waitingBytes,
-  linesLimit,
   isFeed,
   kept,
   partedFrom,

@@ -1,19 +1,15 @@
 -- Where the calls of a text keep the rules, the replay prints what the plain machine prints.
-use Prim.Native.Nat.{ℕ, zero, suc, _<_}
-use native.Mathlib.Omega.{arith}
-use mathlib.Core.Bool.{true, cond, _&&_}
+use Prim.Native.Nat.{ℕ}
+use mathlib.Core.Bool.{true, cond}
 use mathlib.Core.Path.{_≡_, refl, ap}
-use mathlib.Core.List.{List, [], _∷_, _++_, map}
-use lib.Dec.{leb}
-use lib.ListN.{length, replicate}
-use borrow.Author.Tests.{leb-true}
-use Rattle.values.specs.Lists.{all}
+use mathlib.Core.List.{List, [], _∷_, _++_}
+use lib.ListN.{replicate}
 use Rattle.values.specs.declared.Answer.{Answer}
-use Rattle.values.proofs.Cases.{case, and-left, and-right}
+use Rattle.values.proofs.Cases.{case}
 use Rattle.values.specs.Rows.{firstMet}
 use Rattle.trace.specs.Fold.{callsIn}
 use Rattle.printed.specs.Printed.{printed}
-use Rattle.fields.specs.Lines.{Line, linesOf, fieldsOf, isDigit, valueOf, isField, numbersIn, isLine, callsOf, departs}
+use Rattle.fields.specs.Lines.{Line, linesOf, numbersIn, isLine, callsOf, departs}
 use Rattle.fields.proofs.First.{line-stands}
 use Rattle.fields.proofs.Calls.{line-32}
 use Rattle.soundness_laws.proofs.LowBytes.{bytes-zeros}
@@ -22,7 +18,6 @@ use Rattle.plain.specs.Plain.{plainStart}
 use Rattle.terms.specs.History.{noHistory}
 use Rattle.terms.specs.Rules.{Keeps}
 use Rattle.terms.specs.Term3.{AllNumbers, Run}
-use Rattle.terms.specs.Corollaries.{All32}
 use Rattle.terms.proofs.Term3.{term3}
 use Rattle.terms.proofs.Positions.{same-rules}
 use Rattle.terms.proofs.Corollaries.{calls-numbers}

@@ -1,15 +1,15 @@
 -- What is read of the lines at the front of a text: their calls, and those behind them, are the calls of the whole text.
-use Prim.Native.Nat.{ℕ, zero, suc, _+_, _*_, _≤_}
+use Prim.Native.Nat.{ℕ, zero, suc, _+_, _≤_}
 use native.Mathlib.Omega.{arith}
 use mathlib.Core.Bool.{Bool, true, false, cond}
 use mathlib.Core.Path.{_≡_, refl, sym, _∙_, ap, subst}
 use mathlib.Core.List.{List, [], _∷_, _++_}
 use lib.Dec.{eqb}
-use lib.ListN.{length, getD, drop, length-append, length-drop, List·getD-append}
-use lib.Seq.{getD-append-add, drop-drop, drop-append-le}
+use lib.ListN.{length, drop, length-append}
+use lib.Seq.{drop-drop, drop-append-le}
 use Rattle.values.specs.declared.Call.{Call}
 use Rattle.values.proofs.Cases.{case}
-use Rattle.trace.specs.Calls.{callAt, isCallAt}
+use Rattle.trace.specs.Calls.{callAt}
 use Rattle.trace.specs.Fold.{callsIn}
 use Rattle.fields.specs.Lines.{Line, linesOf, numbersIn, isLine, callsOf, departs}
 use Rattle.fields.specs.Parse.{firstLine, sizeOf, decided, more, open-line, departing, Parsed, parse}

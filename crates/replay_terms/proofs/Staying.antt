@@ -6,15 +6,14 @@ use mathlib.Core.Path.{_≡_, refl, sym, _∙_, ap, subst}
 use mathlib.Core.List.{List, [], _∷_, _++_}
 use lib.Dec.{eqb, leb}
 use lib.ListN.{length, take, drop, replicate, length-take}
-use borrow.Author.Tests.{leb-true, leb-false}
 use Rattle.values.specs.Lists.{any}
 use Rattle.values.specs.declared.Call.{Call}
-use Rattle.values.proofs.Cases.{case, and-right}
+use Rattle.values.proofs.Cases.{case}
 use Rattle.trace.specs.Fold.{answersOf, finalOf}
 use Rattle.printed.specs.Printed.{printed}
 use Rattle.printed.proofs.Decimal.{decimal-ten}
 use Rattle.fields.specs.Lines.{linesOf, callsOf}
-use Rattle.fields.specs.Parse.{firstLine, decided, departing, Parsed, parse}
+use Rattle.fields.specs.Parse.{decided, departing, Parsed, parse}
 use Rattle.fields.proofs.First.{undecided, parse-few}
 use Rattle.fields.proofs.Calls.{parse-calls, parse-room, open-short}
 use Rattle.machine.specs.Machine.{Machine}

@@ -11,7 +11,7 @@ use Rattle.values.specs.declared.Call.the-variants as calls
 use Rattle.values.specs.declared.Answer.{Answer}
 use Rattle.values.specs.declared.Answer.the-variants as answer
 use Rattle.trace.specs.Codes.{numbersOf}
-use Rattle.printed.proofs.Told.{feeds}
+use Rattle.printed.specs.Printed.{feeds}
 use Rattle.fields.specs.Lines.{Line, linesOf, callsOf, departs}
 use Rattle.machine.specs.Machine.{Machine}
 use Rattle.step.specs.Run.{next, answered}
