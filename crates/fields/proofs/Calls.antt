@@ -2,21 +2,20 @@
 use Prim.Native.Nat.{ℕ, zero, suc, _+_, _*_, _≤_, _<_}
 use native.Mathlib.Omega.{arith}
 use native.Mathlib.Nat.{add-zero}
-use mathlib.Core.Bool.{Bool, true, false, _&&_, _||_}
+use mathlib.Core.Bool.{Bool, true, false, _&&_}
 use mathlib.Core.Path.{_≡_, refl, sym, _∙_, ap}
 use mathlib.Core.List.{List, [], _∷_, _++_, map}
-use lib.Dec.{eqb, leb}
+use lib.Dec.{leb}
 use lib.ListN.{length, getD, drop, length-append, length-drop, List·getD-append}
 use lib.Seq.{getD-append-add}
 use borrow.Author.Tests.{leb-true, leb-false}
 use Rattle.values.specs.Lists.{all}
-use Rattle.values.proofs.Cases.{case, and-left, and-right, or-none}
+use Rattle.values.proofs.Cases.{case, and-left, and-right}
 use Rattle.trace.specs.Calls.{callAt, isCall, isCallAt}
 use Rattle.trace.specs.Fold.{callsIn}
-use Rattle.printed.specs.Printed.{lineFeed}
 use Rattle.fields.specs.Lines.{Line, fieldsOf, isDigit, valueOf, isField, numbersIn, isLine}
 use Rattle.fields.specs.Parse.{firstLine, sizeOf, decided, Parsed, parse}
-use Rattle.fields.proofs.Parsing.{line-five}
+use Rattle.fields.proofs.First.{first-open, line-stands, line-five, undecided}
 
 -- ---- five numbers before others
 
@@ -55,16 +54,6 @@ module _ (five rest : List ℕ) (e : length five ≡ 5) where
       in
       rw u (rw (c, calls-behind n 0))
 
--- a line that does not depart is a call
-pub line-call : (l : Line) → isLine l ≡ true → isCallAt (numbersIn l) 0 ≡ true
-unfolding isLine
-line-call l t =
-    let fs = fieldsOf (l .bytes) in
-    let c = isCallAt (numbersIn l) 0 in
-    let a = and-right (l .ended) (leb (length (l .bytes) + 1) 64 && (eqb (length fs) 5 && (all isField fs && c))) t in
-    let b = and-right (leb (length (l .bytes) + 1) 64) (eqb (length fs) 5 && (all isField fs && c)) a in
-    and-right (all isField fs) c (and-right (eqb (length fs) 5) (all isField fs && c) b)
-
 -- the numbers of fields have 32 bits
 fields-32 : (fs : List (List ℕ)) → all isField fs ≡ true → (i : ℕ) → i < length (map valueOf fs) → getD (map valueOf fs) i 0 < 0x100000000
 unfolding all
@@ -76,16 +65,11 @@ fields-32 (f ∷ fs) h zero k =
     omega arith
 fields-32 (f ∷ fs) h (suc i) k = fields-32 fs (and-right (isField f) (all isField fs) h) i (omega arith)
 
+-- and so have those of a line
 pub line-32 : (l : Line) → isLine l ≡ true → (i : ℕ) → i < length (numbersIn l) → getD (numbersIn l) i 0 < 0x100000000
-unfolding isLine
-line-32 l t =
-    let fs = fieldsOf (l .bytes) in
-    let c = isCallAt (numbersIn l) 0 in
-    let a = and-right (l .ended) (leb (length (l .bytes) + 1) 64 && (eqb (length fs) 5 && (all isField fs && c))) t in
-    let b = and-right (leb (length (l .bytes) + 1) 64) (eqb (length fs) 5 && (all isField fs && c)) a in
-    fields-32 fs (and-left (all isField fs) c (and-right (eqb (length fs) 5) (all isField fs && c) b))
+line-32 l t = fields-32 (fieldsOf (l .bytes)) (line-stands l t .are-fields)
 
--- and so have those of lists one behind the other
+-- and those of lists one behind the other
 both-32 : (xs ys : List ℕ) → ((i : ℕ) → i < length xs → getD xs i 0 < 0x100000000) → ((i : ℕ) → i < length ys → getD ys i 0 < 0x100000000)
     → (i : ℕ) → i < length (xs ++ ys) → getD (xs ++ ys) i 0 < 0x100000000
 both-32 [] ys f g i h = g i h
@@ -113,7 +97,7 @@ module _ (ends : Bool) where
   parse-first n t h =
       let p : Parsed = parse ends n (drop (sizeOf (firstLine t)) t) in
       let e : p .made + 1 ≡ suc (p .made) = omega arith in
-      rw (h, e) (calls-first (numbersIn (firstLine t)) (p .numbers) (line-five (firstLine t) h) (p .made) (line-call (firstLine t) h))
+      rw (h, e) (calls-first (numbersIn (firstLine t)) (p .numbers) (line-five (firstLine t) h) (p .made) (line-stands (firstLine t) h .is-call))
 
   -- five numbers a line
   pub parse-long : (n : ℕ) (t : List ℕ) → length (parse ends n t .numbers) ≡ parse ends n t .made * 5
@@ -153,23 +137,12 @@ module _ (ends : Bool) where
       rw h (omega arith))
       (λ h. rw h (omega arith))
 
--- a first line that has not ended is all of the text
-pub first-open : (t : List ℕ) → firstLine t .ended ≡ false → firstLine t .bytes ≡ t
-unfolding firstLine
-first-open [] h = refl
-first-open (b ∷ bs) h =
-    case (eqb b lineFeed)
-    (λ u. let z : true ≡ false = rw u at h in let y : _≡_ {A = ℕ} 0 1 = cc in absurd (omega arith))
-    (λ u. let z : firstLine bs .ended ≡ false = rw u at h in rw u (ap (λ (r : List ℕ). b ∷ r) (first-open bs z)))
-
 -- behind the lines stands a line that is not decided: it has fewer than 64 bytes
-open-short : (ends : Bool) (t : List ℕ) → decided ends t ≡ false → length t ≤ 63
-unfolding decided
+pub open-short : (ends : Bool) (t : List ℕ) → decided ends t ≡ false → length t ≤ 63
 open-short ends t h =
-    let a = or-none (firstLine t .ended || leb 64 (length (firstLine t .bytes))) (ends && leb 1 (length t)) h .0 in
-    let b = or-none (firstLine t .ended) (leb 64 (length (firstLine t .bytes))) a in
-    let e = ap length (first-open t (b .0)) in
-    let k = leb-false 64 (length (firstLine t .bytes)) (b .1) in
+    let u = undecided ends t h in
+    let e = ap length (first-open t (u .0)) in
+    let k = leb-false 64 (length (firstLine t .bytes)) (u .1) in
     omega arith
 
 pub parse-open : (ends : Bool) (n : ℕ) (t : List ℕ) → parse ends n t .verdict ≡ 1 → length t ≤ parse ends n t .end + 63

@@ -6,6 +6,7 @@ pub mod Verdicts
 pub mod Scan
 pub mod Means
 pub mod LineRead
+pub mod First
 pub mod Parsing
 pub mod Calls
-pub mod First
+pub mod ReadBack

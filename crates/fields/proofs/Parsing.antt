@@ -2,28 +2,16 @@
 use Prim.Native.Nat.{ℕ, suc, _+_, _*_, _-_, _≤_, _<_}
 use native.Mathlib.Omega.{arith}
 use native.Mathlib.Nat.{sub-zero, add-zero, zero-add}
-use mathlib.Core.Bool.{Bool, true, false, cond, _&&_}
+use mathlib.Core.Bool.{Bool, true, false, cond}
 use mathlib.Core.Path.{_≡_, refl, sym, _∙_, ap}
 use mathlib.Core.List.{List, [], _++_, append-nil, append-assoc}
-use lib.Dec.{eqb, leb}
-use lib.ListN.{length, take, drop, length-map, length-append}
+use lib.ListN.{length, take, drop, length-append}
 use lib.Seq.{sets-eq, drop-drop, length-take-le, take-at}
-use borrow.Author.Tests.{eqb-true}
-use Rattle.values.specs.Lists.{all}
-use Rattle.values.proofs.Cases.{case, and-left, and-right}
-use Rattle.trace.specs.Calls.{isCallAt}
-use Rattle.fields.specs.Lines.{Line, fieldsOf, valueOf, isField, numbersIn, isLine}
+use Rattle.values.proofs.Cases.{case}
+use Rattle.fields.specs.Lines.{Line, numbersIn, isLine}
 use Rattle.fields.specs.Parse.{firstLine, sizeOf, decided, departing, open-line, Parsed, parse}
 use Rattle.fields.specs.Code.{LineRead, LinesRead}
-
--- a line that does not depart has five numbers
-pub line-five : (l : Line) → isLine l ≡ true → length (numbersIn l) ≡ 5
-unfolding isLine
-line-five l t =
-    let fs = fieldsOf (l .bytes) in
-    let a = and-right (l .ended) (leb (length (l .bytes) + 1) 64 && (eqb (length fs) 5 && (all isField fs && isCallAt (numbersIn l) 0))) t in
-    let b = and-right (leb (length (l .bytes) + 1) 64) (eqb (length fs) 5 && (all isField fs && isCallAt (numbersIn l) 0)) a in
-    length-map fs valueOf ∙ eqb-true (length fs) 5 (and-left (eqb (length fs) 5) (all isField fs && isCallAt (numbersIn l) 0) b)
+use Rattle.fields.proofs.First.{line-five}
 
 -- what holds before each turn of the loop: the lines read, and those still to be read, are the whole
 pub record Parsing (ends : Bool) (n : ℕ) (text calls₀ calls : List ℕ) (at k : ℕ) : Type 0 where

@@ -1,10 +1,10 @@
--- What is printed tells the answers: a code's line is its answer's, decimal digits read back as the number, a line has one line feed.
+-- What is printed tells the answers: a code's line is its answer's, numbers are printed in digits, a line has one line feed.
 use Prim.Native.Nat.{ℕ, zero, suc, _+_, _*_, _-_, _/_, _%_, _<_, _≤_}
 use native.Mathlib.Omega.{arith}
-use native.Mathlib.Nat.{zero-add, add-assoc}
+use native.Mathlib.Nat.{add-zero, zero-add, add-assoc}
 use mathlib.Core.Bool.{Bool, true, false, cond, _&&_}
 use mathlib.Core.Path.{_≡_, refl, sym, _∙_, ap, subst}
-use mathlib.Core.List.{List, [], _∷_, _++_}
+use mathlib.Core.List.{List, [], _∷_, _++_, append-assoc}
 use lib.Dec.{eqb, ltb}
 use lib.IntN.{pos, negsuc}
 use lib.ListN.{length, getD}
@@ -14,7 +14,7 @@ use Rattle.values.specs.declared.Answer.{Answer}
 use Rattle.values.specs.declared.Answer.the-variants as answer
 use Rattle.values.proofs.Cases.{case, and-both, and-false}
 use Rattle.trace.specs.Codes.{codeOf, kindUnit, numbersOf}
-use Rattle.printed.specs.Printed.{zeroDigit, lineFeed, comma, minus, decimal, printedNumber, lineOf, printed}
+use Rattle.printed.specs.Printed.{zeroDigit, lineFeed, comma, minus, decimal, printedNumber, lineOf, printed, feeds}
 use Rattle.printed.specs.Code.{valueText, codeLine, codeLines, Told}
 use Rattle.printed.proofs.Decimal.{decimal-one, decimal-more}
 use Rattle.printed.proofs.Steps.{value-low, value-plain, value-minus}
@@ -76,34 +76,16 @@ told-lines i calls codes k (a ∷ rest) h =
     ap (λ (l : List ℕ). l ++ codeLines (length rest) (i + 1) calls codes (k + 1)) (ap (λ (c : ℕ). codeLine i signed c) (h .0) ∙ told-line i signed a (h .1))
     ∙ ap (λ (l : List ℕ). lineOf i a ++ l) (told-lines (i + 1) calls codes (k + 1) rest (h .2))
 
--- ---- decimal digits read back
+-- the lines of two lists of answers
+pub printed-append : (i : ℕ) (xs ys : List Answer) → printed i (xs ++ ys) ≡ printed i xs ++ printed (i + length xs) ys
+unfolding printed
+printed-append i [] ys = ap (λ (j : ℕ). printed j ys) (sym (add-zero i))
+printed-append i (x ∷ xs) ys =
+    let e : i + 1 + length xs ≡ i + suc (length xs) = omega arith in
+    ap (λ (l : List ℕ). lineOf i x ++ l) (printed-append (i + 1) xs ys ∙ ap (λ (j : ℕ). printed (i + 1) xs ++ printed j ys) e)
+    ∙ sym (append-assoc (lineOf i x) (printed (i + 1) xs) (printed (i + suc (length xs)) ys))
 
--- the number of decimal digits behind a number
-unfoldable pub valueFrom : ℕ → List ℕ → ℕ
-valueFrom acc [] = acc
-valueFrom acc (b ∷ bs) = valueFrom (acc * 10 + (b - zeroDigit)) bs
-
--- one digit more at the end
-value-last : (acc : ℕ) (bs : List ℕ) (b : ℕ) → valueFrom acc (bs ++ b ∷ []) ≡ valueFrom acc bs * 10 + (b - zeroDigit)
-unfolding valueFrom
-value-last acc [] b = refl
-value-last acc (x ∷ bs) b = value-last (acc * 10 + (x - zeroDigit)) bs b
-
--- the digits of a number read back are the number, for numbers below m
-value-below : (m n : ℕ) → n < m → valueFrom 0 (decimal n) ≡ n
-unfolding valueFrom
-value-below zero n h = absurd (omega arith)
-value-below (suc m) n h =
-    case (ltb n 10)
-    (λ t. let e : 0 * 10 + (zeroDigit + n - zeroDigit) ≡ n = omega arith in ap (λ (l : List ℕ). valueFrom 0 l) (decimal-one n (ltb-true n 10 t)) ∙ e)
-    (λ t. let l = ltb-false n 10 t in
-    let r = value-below m (n / 10) (omega arith) in
-    let e = value-last 0 (decimal (n / 10)) (zeroDigit + n % 10) in
-    ap (λ (l : List ℕ). valueFrom 0 l) (decimal-more n l) ∙ e ∙ omega arith)
-
--- the digits of a number read back are the number
-pub decimal-value : (n : ℕ) → valueFrom 0 (decimal n) ≡ n
-decimal-value n = value-below (suc n) n (omega arith)
+-- ---- decimal digits
 
 -- each byte is one of the digits 0 to 9
 unfoldable pub Digits : List ℕ → Type 0
@@ -131,11 +113,6 @@ pub decimal-digits : (n : ℕ) → Digits (decimal n)
 decimal-digits n = digits-below (suc n) n (omega arith)
 
 -- ---- line feeds
-
--- how many line feeds a text has
-unfoldable pub feeds : List ℕ → ℕ
-feeds [] = 0
-feeds (b ∷ bs) = cond (eqb b lineFeed) 1 0 + feeds bs
 
 -- two texts have the line feeds of both
 feeds-append : (xs ys : List ℕ) → feeds (xs ++ ys) ≡ feeds xs + feeds ys

@@ -3,7 +3,7 @@
 use Prim.Native.Nat.{ℕ, zero, suc, _+_, _/_, _%_}
 use mathlib.Core.Bool.{cond}
 use mathlib.Core.List.{List, [], _∷_, _++_}
-use lib.Dec.{ltb}
+use lib.Dec.{eqb, ltb}
 use lib.IntN.{ℤ, pos, negsuc}
 use Rattle.values.specs.Answers.{fsrOf}
 use Rattle.values.specs.declared.Answer.{Answer}
@@ -53,3 +53,8 @@ lineOf i a = decimal i ++ comma ∷ decimal (numbersOf a .kind) ++ comma ∷ pri
 unfoldable pub printed : ℕ → List Answer → List ℕ
 printed i [] = []
 printed i (a ∷ rest) = lineOf i a ++ printed (i + 1) rest
+
+-- how many line feeds a text has
+unfoldable pub feeds : List ℕ → ℕ
+feeds [] = 0
+feeds (b ∷ bs) = cond (eqb b lineFeed) 1 0 + feeds bs

@@ -1,21 +1,20 @@
 -- A line begun, with what belongs to it of the text behind it: it is the first line of both, and what is parsed of it is what is parsed of both.
 use Prim.Native.Nat.{ℕ, zero, suc, _+_, _-_, _≤_}
 use native.Mathlib.Omega.{arith}
-use mathlib.Core.Bool.{Bool, true, false, cond, _&&_, _||_, and-true}
+use mathlib.Core.Bool.{Bool, true, false, cond, _&&_, and-true}
 use mathlib.Core.Logic.{_⊎_, inl, inr, ⊎-elim}
 use mathlib.Core.Path.{_≡_, refl, sym, _∙_, ap}
 use mathlib.Core.List.{List, [], _∷_, _++_, append-assoc, append-nil}
-use lib.Dec.{eqb, leb}
+use lib.Dec.{eqb}
 use lib.ListN.{length, drop, length-append, length-drop, drop-of-length-le}
 use lib.Seq.{drop-append-seam}
-use borrow.Author.Tests.{eq-eqb, le-leb, lt-leb}
+use borrow.Author.Tests.{eq-eqb}
 use Rattle.values.specs.Lists.{any}
-use Rattle.values.proofs.Cases.{case, clash, or-left, or-right, and-false}
+use Rattle.values.proofs.Cases.{case, clash}
 use Rattle.printed.specs.Printed.{lineFeed}
 use Rattle.fields.specs.Lines.{Line, lineFrom, isLine}
 use Rattle.fields.specs.Parse.{firstLine, sizeOf, decided, more, open-line, departing, Parsed, parsedFrom, withLine, parse}
-use Rattle.fields.proofs.First.{first-ended, first-goes-on, no-feed-open}
-use Rattle.fields.proofs.Calls.{first-open}
+use Rattle.fields.proofs.First.{first-ended, first-open, first-goes-on, no-feed-open, long-departs, open-departs, long-decided, ended-decided}
 use Rattle.replay.specs.Parts.{isFeed}
 use Rattle.replay.specs.Code.{onto}
 
@@ -61,25 +60,6 @@ oneBy l d = cond (isLine l) (withLine l (parsedFrom [] 0 0 more)) (parsedFrom []
 one-is : (ends : Bool) (t : List ℕ) → parse ends 1 t ≡ oneBy (firstLine t) (decided ends t)
 unfolding parse
 one-is ends t = refl
-
--- a line of more than 63 bytes before its line feed departs
-long-departs : (l : Line) → 64 ≤ length (l .bytes) → isLine l ≡ false
-unfolding isLine
-long-departs l h = and-false (l .ended) _ (rw (lt-leb (length (l .bytes) + 1) 64 (omega arith)))
-
-open-departs : (l : Line) → l .ended ≡ false → isLine l ≡ false
-unfolding isLine
-open-departs l h = rw h
-
-long-decided : (ends : Bool) (t : List ℕ) → 64 ≤ length (firstLine t .bytes) → decided ends t ≡ true
-unfolding decided
-long-decided ends t h =
-    or-left (firstLine t .ended || leb 64 (length (firstLine t .bytes))) (ends && leb 1 (length t))
-    (or-right (firstLine t .ended) (leb 64 (length (firstLine t .bytes))) (le-leb 64 (length (firstLine t .bytes)) h))
-
-ended-decided : (ends : Bool) (t : List ℕ) → firstLine t .ended ≡ true → decided ends t ≡ true
-unfolding decided
-ended-decided ends t h = rw h
 
 -- what is parsed of a line begun with what belongs to it of the text
 pub record OneParsed (ends : Bool) (begun text whole : List ℕ) (taken : ℕ) : Type 0 where

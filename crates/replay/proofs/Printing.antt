@@ -4,7 +4,7 @@ use native.Mathlib.Omega.{arith}
 use native.Mathlib.Nat.{add-zero, zero-add}
 use mathlib.Core.Bool.{Bool, false, cond}
 use mathlib.Core.Path.{_≡_, sym, _∙_, ap, subst}
-use mathlib.Core.List.{List, [], _∷_, _++_, map, append-nil, append-assoc}
+use mathlib.Core.List.{List, [], _∷_, _++_, map, append-nil}
 use lib.Dec.{eqb}
 use lib.ListN.{length, getD, take, drop}
 use lib.Seq.{getD-take, getD-drop, drop-drop}
@@ -19,7 +19,7 @@ use Rattle.trace.proofs.Folds.{answers-long}
 use Rattle.printed.specs.Printed.{lineOf, printed}
 use Rattle.printed.specs.Code.{Laid, codeLine, codeLines, Told}
 use Rattle.printed.proofs.Laying.{over-none, laid-as, laid-then, laid-within}
-use Rattle.printed.proofs.Told.{told-line, told-code, AllTold, told-lines}
+use Rattle.printed.proofs.Told.{told-line, told-code, AllTold, told-lines, printed-append}
 use Rattle.fields.specs.Parse.{departing, Parsed, parse}
 use Rattle.fields.specs.Code.{LinesRead}
 use Rattle.fields.specs.declared.Parsed as read
@@ -54,15 +54,6 @@ departed-none out at line verdict z =
     }
 
 -- ---- the answers' lines
-
--- lines behind lines
-pub printed-append : (i : ℕ) (xs ys : List Answer) → printed i (xs ++ ys) ≡ printed i xs ++ printed (i + length xs) ys
-unfolding printed
-printed-append i [] ys = ap (λ (j : ℕ). printed j ys) (sym (add-zero i))
-printed-append i (x ∷ xs) ys =
-    let e : i + 1 + length xs ≡ i + suc (length xs) = omega arith in
-    ap (λ (l : List ℕ). lineOf i x ++ l) (printed-append (i + 1) xs ys ∙ ap (λ (j : ℕ). printed (i + 1) xs ++ printed j ys) e)
-    ∙ sym (append-assoc (lineOf i x) (printed (i + 1) xs) (printed (i + suc (length xs)) ys))
 
 -- answers that their codes tell, over a list of calls of which a front was run
 pub all-told : (calls codes behind : List ℕ) (made n i : ℕ) (ys : List Answer) → i + length ys ≤ made → drop i codes ≡ map codeOf ys ++ behind

@@ -8,6 +8,7 @@ use lib.Dec.{eqb}
 use lib.ListN.{length}
 use borrow.Author.Tests.{eqb-true, eqb-false}
 use Rattle.values.specs.Counts.{counted}
+use Rattle.values.specs.Kinds.{isStore}
 use Rattle.values.specs.declared.Kind.{Kind}
 use Rattle.values.specs.declared.Kind.the-variants.{Load, SignedLoad, Store}
 use Rattle.values.specs.declared.Access.{Access}
@@ -41,7 +42,7 @@ use Rattle.terms.specs.Term1.{ValueOrFault}
 use Rattle.terms.proofs.Answers.{call-by-refusal}
 use Rattle.answers.proofs.Ranges.{refusal-low}
 use Rattle.replay.specs.Replay.{refused13, lineAnswers}
-use Rattle.replay_terms.specs.Printed.{AsMany, Without13, ThirteenLast, isStore, storesOrWrites, ZeroPrinted}
+use Rattle.replay_terms.specs.Printed.{AsMany, Without13, ThirteenLast, storesOrWrites, ZeroPrinted}
 use Rattle.replay_terms.proofs.Printing.{answers-counted}
 
 -- ---- how many lines

@@ -11,18 +11,19 @@ use borrow.Author.Tests.{leb-false, eqb-false}
 use Rattle.values.specs.Lists.{any}
 use Rattle.values.specs.declared.Answer.{Answer}
 use Rattle.values.proofs.Cases.{case, and-no}
-use Rattle.printed.specs.Printed.{printed}
-use Rattle.printed.proofs.Told.{feeds, lines-counted}
+use Rattle.printed.specs.Printed.{printed, feeds}
+use Rattle.printed.proofs.Told.{lines-counted}
 use Rattle.fields.specs.Parse.{Parsed, parse}
+use Rattle.fields.proofs.First.{undecided}
+use Rattle.fields.proofs.Calls.{parse-calls}
 use Rattle.step.specs.Run.{next, answered}
 use Rattle.replay.specs.Replay.{prints}
 use Rattle.replay.specs.Parts.{Held, begunLine, waitingBytes, isFeed, kept, Parted, putOut, linesAtMost, machineAfter, parsedAnswers, replayed}
+use Rattle.replay.proofs.Keeping.{kept-means}
 use Rattle.replay_terms.specs.Uses.{Use, endsWith, used, fed, toPrint, WaitingThere, IsKept, NothingComes, GoesOn, Repeated}
-use Rattle.replay_terms.proofs.FirstLines.{undecided}
 use Rattle.replay_terms.proofs.Reading.{callsRead}
 use Rattle.replay_terms.proofs.Printing.{restOf, answers-counted}
 use Rattle.replay_terms.proofs.OnePart.{
-  kept-means,
   some-lines,
   part-refused,
   part-waiting,
@@ -61,7 +62,7 @@ module _ (ends : Bool) (yes : ends ≡ true) (n : ℕ) (h : Held) (text z out : 
       let r = read ends n h text z out none in
       let a = none-answered (h .lines + 1) (parsedAnswers (h .machine) p) b in
       let c = answers-counted next answered (h .machine) (callsRead p) (eqb (p .verdict) 2) in
-      let l = r .long in
+      let l = parse-calls ends n (begunLine h ++ text) in
       verdict-cases (p .verdict) (r .one-of) (λ e. let d = r .all-made e in absurd (omega arith)) (λ e. e)
       (λ e.
       let d : cond {A = ℕ} (eqb (p .verdict) 2) 1 0 ≡ 1 = rw e in
@@ -123,7 +124,7 @@ module _ (h : Held) (left : List ℕ) (u : Use) (k : IsKept h) (there : WaitingT
       let b = bytes ends n h t (drop (u .offered) left) (u .slice) none in
       let e : used h left u ≡ replayed ends n h t (u .slice) = part-replayed ends h t (u .slice) k w s in
       let o = none-put _ b (u .slice) _ (c .room) (ap (λ (r : Parted). r .written) (sym e) ∙ c .none-written) in
-      let f = kept-means (h .lines) (h .held) (h .waiting) (h .begun) k .feedless in
+      let f = kept-means (h .lines) (h .held) (h .waiting) (h .begun) k .no-feed in
       sym (whole-text h left u w s)
       ∙ prints-nothing ends (c .ends) n h t (drop (u .offered) left) (u .slice) none (some-lines (h .held) (length (u .slice))) f (no-elements b o)
 

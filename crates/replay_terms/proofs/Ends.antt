@@ -10,49 +10,46 @@ use lib.Seq.{length-take-le}
 use borrow.Author.Tests.{le-leb, eqb-true, eqb-false}
 use Rattle.values.proofs.Cases.{case, and-both}
 use Rattle.replay.specs.Parts.{Held, waitingBytes, kept, Parted, putOut, linesAtMost, replayed}
+use Rattle.replay.proofs.Bounds.{left-bounded}
 use Rattle.replay_terms.specs.Uses.{Use, endsWith, used, wrote, fed, toPrint, NothingComes, ComesToAnEnd, Ends}
 use Rattle.replay_terms.proofs.OnePart.{part-refused, part-waiting, part-stopped, part-replayed}
 use Rattle.replay_terms.proofs.Uses.{one-part}
 
--- ---- how much a part takes and writes
+-- ---- how much a part writes
 
--- no more is taken than is left, and what is written is so long
-record Bounded (left : List ℕ) (r : Parted) : Type 0 where
-  taken-left : r .taken ≤ length left
-  written-long : length (wrote r) ≡ r .written
+-- what is written is so long
+abbrev Long : Parted → Type 0
+Long r = length (wrote r) ≡ r .written
 
 -- bytes put out
-put-bounded : (left : List ℕ) (h : Held) (bytes out : List ℕ) (taken : ℕ) → taken ≤ length left → Bounded left (putOut h bytes out taken)
+put-long : (h : Held) (bytes out : List ℕ) (taken : ℕ) → Long (putOut h bytes out taken)
 unfolding putOut
-put-bounded left h bytes out taken l =
+put-long h bytes out taken =
     let n = min (length bytes) (length out) in
     let a = length-append (take n bytes) (drop n out) in
     let b = length-take n bytes in
-    record { taken-left = l; written-long = length-take-le n (take n bytes ++ drop n out) (omega arith) }
+    length-take-le n (take n bytes ++ drop n out) (omega arith)
 
 -- lines replayed
-replayed-bounded : (ends : Bool) (n : ℕ) (left : List ℕ) (h : Held) (text out : List ℕ) → length text ≤ length left → Bounded left (replayed ends n h text out)
+replayed-long : (ends : Bool) (n : ℕ) (h : Held) (text out : List ℕ) → Long (replayed ends n h text out)
 unfolding replayed
-replayed-bounded ends n left h text out l = put-bounded left _ _ out _ (omega arith)
+replayed-long ends n h text out = put-long _ _ out _
 
 -- by its case
-part-bounded : (h : Held) (left : List ℕ) (u : Use) → Bounded left (used h left u)
-part-bounded h left u =
+part-long : (h : Held) (left : List ℕ) (u : Use) → Long (used h left u)
+part-long h left u =
     let ends = endsWith u left in
     let text = take (u .offered) left in
     let out = u .slice in
-    let l = length-take (u .offered) left in
     case (kept (h .lines) (h .held) (h .waiting) (h .begun))
     (λ k.
     case (eqb (h .waiting) 0)
     (λ w.
     case (eqb (h .stopped) 0)
-    (λ s.
-    subst (Bounded left) (sym (part-replayed ends h text out k w s))
-    (replayed-bounded ends (linesAtMost (h .held) (length out)) left h text out (omega arith)))
-    (λ s. subst (Bounded left) (sym (part-stopped ends h text out k w s)) (record { taken-left = omega arith; written-long = refl })))
-    (λ w. subst (Bounded left) (sym (part-waiting ends h text out k w)) (put-bounded left h (waitingBytes h) out 0 (omega arith))))
-    (λ k. subst (Bounded left) (sym (part-refused ends h text out k)) (record { taken-left = omega arith; written-long = refl }))
+    (λ s. subst Long (sym (part-replayed ends h text out k w s)) (replayed-long ends (linesAtMost (h .held) (length out)) h text out))
+    (λ s. subst Long (sym (part-stopped ends h text out k w s)) refl))
+    (λ w. subst Long (sym (part-waiting ends h text out k w)) (put-long h (waitingBytes h) out 0)))
+    (λ k. subst Long (sym (part-refused ends h text out k)) refl)
 
 -- ---- what is left to be done
 
@@ -66,9 +63,9 @@ part-does : (h : Held) (left : List ℕ) (u : Use)
 part-does h left u =
     let r = used h left u in
     let rest = toPrint (r .replay) (drop (r .taken) left) in
-    let b = part-bounded h left u in
-    let t = b .taken-left in
-    let w = b .written-long in
+    let t = left-bounded (endsWith u left) h (take (u .offered) left) (u .slice) r refl .taken-low in
+    let l = length-take (u .offered) left in
+    let w = part-long h left u in
     let d = length-drop (r .taken) left in
     let e = ap length (one-part h left u) in
     let f = length-append (wrote r) rest in

@@ -1,17 +1,18 @@
 -- One part: what it writes, and what is then to be printed, is what was to be printed.
 use Prim.Native.Nat.{ℕ, zero, suc, _+_, _-_, _≤_}
 use native.Mathlib.Omega.{arith}
-use mathlib.Core.Bool.{Bool, true, false, cond, not, _&&_}
+use mathlib.Core.Bool.{Bool, true, false, cond, _&&_}
 use mathlib.Core.Path.{_≡_, refl, sym, _∙_, ap}
 use mathlib.Core.List.{List, [], _++_}
 use lib.Dec.{eqb, leb}
 use lib.ListN.{length, take, drop, length-append, length-drop}
 use lib.Seq.{drop-append-le, drop-append-add, drop-append-seam}
-use borrow.Author.Tests.{eqb-true, leb-true, le-leb, not-true}
+use borrow.Author.Tests.{eqb-true, eqb-false}
 use Rattle.values.specs.Lists.{any}
-use Rattle.values.proofs.Cases.{case, and-left, and-right}
+use Rattle.values.proofs.Cases.{case}
 use Rattle.printed.specs.Printed.{printed}
 use Rattle.fields.specs.Parse.{firstLine, sizeOf, Parsed, parse, more}
+use Rattle.fields.proofs.First.{first-goes-on, no-feed-open, parse-within}
 use Rattle.step.specs.Run.{next, answered}
 use Rattle.replay.specs.Replay.{prints}
 use Rattle.replay.specs.Parts as parts
@@ -19,7 +20,6 @@ use Rattle.replay.specs.Parts.{
   Held,
   begunLine,
   waitingBytes,
-  linesLimit,
   isFeed,
   kept,
   partedFrom,
@@ -31,47 +31,20 @@ use Rattle.replay.specs.Parts.{
   replayed,
   part,
 }
+use Rattle.replay.proofs.Parting as parting
+use Rattle.replay.proofs.Parting.{roomy}
 use Rattle.replay_terms.specs.Uses.{wrote, toPrint}
-use Rattle.replay_terms.proofs.FirstLines.{first-behind}
 use Rattle.replay_terms.proofs.Reading.{Reads, reads, past-first}
 use Rattle.replay_terms.proofs.Printing.{prints-read, restOf, put-printed, rest-departing, rest-open, rest-more}
-
--- ---- the test of what is held
-
-pub record Kept (lines held waiting : ℕ) (begun : List ℕ) : Type 0 where
-  pub few-lines : lines ≤ linesLimit
-  pub few-held : held ≤ 63
-  pub few-waiting : waiting ≤ 64
-  pub feedless : any isFeed (take held begun) ≡ false
-
--- what the test means
-pub kept-means : (lines held waiting : ℕ) (begun : List ℕ) → kept lines held waiting begun ≡ true → Kept lines held waiting begun
-unfolding kept
-kept-means lines held waiting begun k =
-    let f = not (any isFeed (take held begun)) in
-    let a = and-right (leb lines linesLimit) (leb held 63 && (leb waiting 64 && f)) k in
-    let b = and-right (leb held 63) (leb waiting 64 && f) a in
-    record {
-      few-lines = leb-true lines linesLimit (and-left (leb lines linesLimit) (leb held 63 && (leb waiting 64 && f)) k);
-      few-held = leb-true held 63 (and-left (leb held 63) (leb waiting 64 && f) a);
-      few-waiting = leb-true waiting 64 (and-left (leb waiting 64) f b);
-      feedless = not-true (any isFeed (take held begun)) (and-right (leb waiting 64) f b);
-    }
-
--- and what makes it pass
-pub kept-so : (lines held waiting : ℕ) (begun : List ℕ) → Kept lines held waiting begun → kept lines held waiting begun ≡ true
-unfolding kept
-kept-so lines held waiting begun k =
-    rw (le-leb lines linesLimit (k .few-lines), le-leb held 63 (k .few-held), le-leb waiting 64 (k .few-waiting), k .feedless)
 
 -- a part asks for at least one line
 pub some-lines : (held room : ℕ) → 1 ≤ linesAtMost held room
 some-lines held room =
     case (eqb held 0 && leb 34 room)
-    (λ t. let h = leb-true 34 room (and-right (eqb held 0) (leb 34 room) t) in rw t (omega arith))
+    (λ t. let h = roomy held room t .1 in rw t (omega arith))
     (λ t. rw t (omega arith))
 
--- ---- the cases of a part
+-- ---- the cases of a part, by the tests
 
 module _ (ends : Bool) (h : Held) (text out : List ℕ) where
   abbrev test : Bool
@@ -79,25 +52,21 @@ module _ (ends : Bool) (h : Held) (text out : List ℕ) where
 
   -- what is held does not pass the test
   pub part-refused : test ≡ false → part ends h text out ≡ partedFrom h 0 0 out 3
-  unfolding part
-  part-refused k = rw k
+  part-refused k = sym (parting.part-refused ends h text out k)
 
   -- bytes wait
   pub part-waiting : test ≡ true → eqb (h .waiting) 0 ≡ false → part ends h text out ≡ putOut h (waitingBytes h) out 0
-  unfolding part
-  part-waiting k w = rw (k, w)
+  part-waiting k w = sym (parting.part-waits ends h text out k (eqb-false (h .waiting) 0 w))
 
   -- a line departed
   pub part-stopped : test ≡ true → eqb (h .waiting) 0 ≡ true → eqb (h .stopped) 0 ≡ false
       → part ends h text out ≡ partedFrom h (length text) 0 out 0
-  unfolding part
-  part-stopped k w s = rw (k, w, s)
+  part-stopped k w s = sym (parting.part-stopped ends h text out k (eqb-true (h .waiting) 0 w) (eqb-false (h .stopped) 0 s))
 
   -- lines are replayed
   pub part-replayed : test ≡ true → eqb (h .waiting) 0 ≡ true → eqb (h .stopped) 0 ≡ true
       → part ends h text out ≡ replayed ends (linesAtMost (h .held) (length out)) h text out
-  unfolding part
-  part-replayed k w s = rw (k, w, s)
+  part-replayed k w s = sym (parting.part-lines ends h text out k (eqb-true (h .waiting) 0 w) (eqb-true (h .stopped) 0 s))
 
 -- nothing waits
 pub none-waiting : (h : Held) → eqb (h .waiting) 0 ≡ true → waitingBytes h ≡ []
@@ -142,7 +111,7 @@ module _ (ends : Bool) (n : ℕ) (h : Held) (text z out : List ℕ) (none : ends
   pub by-departing : p .verdict ≡ 2 → prints next answered (h .machine) (h .lines + 1) (t ++ z) ≡ bytes ++ after
   by-departing e =
       let a = rest-departing (machineAfter (h .machine) p) (h .lines) (p .made) (p .verdict) behind (drop taken (text ++ z)) e in
-      prints-read next answered (h .machine) (h .lines + 1) ends n t z p read
+      prints-read next answered (h .machine) (h .lines + 1) ends n t z read
       ∙ ap (λ (v : ℕ). bytes ++ cond (eqb v 2) [] (prints next answered (machineAfter (h .machine) p) (h .lines + 1 + p .made) (behind ++ z))) e
       ∙ ap (λ (l : List ℕ). bytes ++ l) (sym a)
 
@@ -151,7 +120,7 @@ module _ (ends : Bool) (n : ℕ) (h : Held) (text z out : List ℕ) (none : ends
       → prints next answered (h .machine) (h .lines + 1) (t ++ z) ≡ bytes ++ after
   by-left v e f a =
       let g : eqb (p .verdict) 2 ≡ false = ap (λ (k : ℕ). eqb k 2) e ∙ f in
-      prints-read next answered (h .machine) (h .lines + 1) ends n t z p read
+      prints-read next answered (h .machine) (h .lines + 1) ends n t z read
       ∙ ap (λ (b : Bool). bytes ++ cond b [] (prints next answered (machineAfter (h .machine) p) (h .lines + 1 + p .made) (behind ++ z))) g
       ∙ ap (λ (l : List ℕ). bytes ++ l) (sym a)
 
@@ -182,7 +151,8 @@ module _ (ends : Bool) (n : ℕ) (h : Held) (text z out : List ℕ) (none : ends
         let v : parse ends (suc (n - 1)) t .verdict ≡ more = ap (λ (x : Parsed). x .verdict) (sym q) ∙ e in
         let w = past-first ends (n - 1) t v in
         let x : p .end ≡ parse ends (suc (n - 1)) t .end = ap (λ (x : Parsed). x .end) q in
-        let y : sizeOf (firstLine t) ≡ length (begunLine h ++ firstLine text .bytes) + 1 = ap sizeOf (first-behind (begunLine h) text k) in
+        let f = first-goes-on (begunLine h) text (no-feed-open (begunLine h) k) in
+        let y : sizeOf (firstLine t) ≡ length (begunLine h ++ firstLine text .bytes) + 1 = ap sizeOf f in
         let u = length-append (begunLine h) (firstLine text .bytes) in
         omega arith
 
@@ -194,7 +164,7 @@ module _ (ends : Bool) (n : ℕ) (h : Held) (text z out : List ℕ) (none : ends
         let j = p .end - length b in
         let a : behind ≡ drop j text =
         (let x : p .end ≡ length b + j = omega arith in ap (λ (i : ℕ). drop i t) x ∙ drop-append-add b text j) in
-        let i = read .inside in
+        let i = parse-within ends n t in
         let c = length-append b text in
         let d = length-drop (p .end) t in
         let l : taken ≡ j = ap (λ (v : ℕ). length text - parts.left v behind) e ∙ omega arith in

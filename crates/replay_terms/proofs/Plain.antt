@@ -1,52 +1,34 @@
 -- Where the calls of a text keep the rules, the replay prints what the plain machine prints.
-use Prim.Native.Nat.{ℕ, zero, suc, _<_}
-use native.Mathlib.Omega.{arith}
-use mathlib.Core.Bool.{true, cond, _&&_}
+use Prim.Native.Nat.{ℕ}
+use mathlib.Core.Bool.{true, cond}
 use mathlib.Core.Path.{_≡_, refl, ap}
-use mathlib.Core.List.{List, [], _∷_, _++_, map}
-use lib.Dec.{leb}
-use lib.ListN.{length, replicate}
-use borrow.Author.Tests.{leb-true}
-use Rattle.values.specs.Lists.{all}
+use mathlib.Core.List.{List, [], _∷_, _++_}
+use lib.ListN.{replicate}
 use Rattle.values.specs.declared.Answer.{Answer}
-use Rattle.values.proofs.Cases.{case, and-left, and-right}
+use Rattle.values.proofs.Cases.{case}
 use Rattle.values.specs.Rows.{firstMet}
 use Rattle.trace.specs.Fold.{callsIn}
 use Rattle.printed.specs.Printed.{printed}
-use Rattle.fields.specs.Lines.{Line, linesOf, fieldsOf, isDigit, valueOf, isField, numbersIn, isLine, callsOf, departs}
+use Rattle.fields.specs.Lines.{Line, linesOf, numbersIn, isLine, callsOf, departs}
+use Rattle.fields.proofs.First.{line-stands}
+use Rattle.fields.proofs.Calls.{line-32}
 use Rattle.soundness_laws.proofs.LowBytes.{bytes-zeros}
 use Rattle.step.specs.Meets.{startRefusal}
 use Rattle.plain.specs.Plain.{plainStart}
 use Rattle.terms.specs.History.{noHistory}
 use Rattle.terms.specs.Rules.{Keeps}
 use Rattle.terms.specs.Term3.{AllNumbers, Run}
-use Rattle.terms.specs.Corollaries.{All32}
 use Rattle.terms.proofs.Term3.{term3}
 use Rattle.terms.proofs.Positions.{same-rules}
 use Rattle.terms.proofs.Corollaries.{calls-numbers}
 use Rattle.replay.specs.Replay.{refused13, lineAnswers}
 use Rattle.replay_terms.specs.Printed.{zeros, PlainReplay, PlainReplayPrinted}
-use Rattle.replay_terms.proofs.FirstLines.{line-stands}
 
 -- ---- the numbers of a line have 32 bits
 
--- "up to 4,294,967,295"
-field-low : (f : List ℕ) → isField f ≡ true → valueOf f < 0x100000000
-field-low f t =
-    let a = and-right (leb 1 (length f)) (all isDigit f && leb (valueOf f) 0xFFFFFFFF) t in
-    let b = leb-true (valueOf f) 0xFFFFFFFF (and-right (all isDigit f) (leb (valueOf f) 0xFFFFFFFF) a) in
-    omega arith
-
--- the numbers of fields
-fields-low : (fs : List (List ℕ)) → all isField fs ≡ true → All32 (map valueOf fs)
-unfolding all
-fields-low [] t i h = absurd (omega arith)
-fields-low (f ∷ fs) t zero h = field-low f (and-left (isField f) (all isField fs) t)
-fields-low (f ∷ fs) t (suc i) h = fields-low fs (and-right (isField f) (all isField fs) t) i (omega arith)
-
--- so the call of a line has numbers of 32 bits
+-- the call of a line has numbers of 32 bits
 line-numbers : (l : Line) → isLine l ≡ true → AllNumbers (callsIn 1 (numbersIn l) 0)
-line-numbers l t = calls-numbers (numbersIn l) (fields-low (fieldsOf (l .bytes)) (line-stands l t .are-fields)) 1 0
+line-numbers l t = calls-numbers (numbersIn l) (line-32 l t) 1 0
 
 -- and so have the calls of lines
 pub lines-numbers : (lines : List Line) → AllNumbers (callsOf lines)

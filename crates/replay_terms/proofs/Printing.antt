@@ -1,10 +1,9 @@
 -- What is printed of lines one after another, and what is printed by a part and after it.
 use Prim.Native.Nat.{ℕ, _+_, _-_, min}
 use native.Mathlib.Omega.{arith}
-use native.Mathlib.Nat.{add-zero}
 use mathlib.Core.Bool.{Bool, true, false, cond}
 use mathlib.Core.Path.{_≡_, refl, sym, _∙_, ap}
-use mathlib.Core.List.{List, [], _∷_, _++_, append-nil, append-assoc}
+use mathlib.Core.List.{List, [], _++_, append-nil, append-assoc}
 use lib.Dec.{eqb}
 use lib.ListN.{length, take, drop, replicate, length-append, length-drop, take-append-drop}
 use lib.Seq.{take-at, length-take-le}
@@ -13,24 +12,17 @@ use Rattle.values.specs.declared.Answer.{Answer}
 use Rattle.values.proofs.Cases.{case}
 use Rattle.trace.specs.Fold.{answersOf, finalOf}
 use Rattle.trace.proofs.Folds.{answers-append, answers-long}
-use Rattle.printed.specs.Printed.{lineOf, printed}
+use Rattle.printed.specs.Printed.{printed}
+use Rattle.printed.proofs.Told.{printed-append}
 use Rattle.fields.specs.Lines.{linesOf, callsOf, departs}
-use Rattle.fields.specs.Parse.{departing, Parsed}
+use Rattle.fields.specs.Parse.{departing, Parsed, parse}
+use Rattle.fields.proofs.Calls.{parse-calls}
 use Rattle.machine.specs.Machine.{Machine}
 use Rattle.step.specs.Run.{next, answered}
 use Rattle.replay.specs.Replay.{refused13, lineAnswers, prints}
 use Rattle.replay.specs.Parts.{Held, begunLine, waitingBytes, padded, putOut, settled}
 use Rattle.replay_terms.specs.Uses.{wrote, toPrint}
 use Rattle.replay_terms.proofs.Reading.{callsRead, Reads}
-
--- the lines of two lists of answers
-pub printed-append : (i : ℕ) (xs ys : List Answer) → printed i (xs ++ ys) ≡ printed i xs ++ printed (i + length xs) ys
-unfolding printed
-printed-append i [] ys = ap (λ (k : ℕ). printed k ys) (sym (add-zero i))
-printed-append i (x ∷ xs) ys =
-    let e : i + 1 + length xs ≡ i + length (x ∷ xs) = omega arith in
-    ap (λ (l : List ℕ). lineOf i x ++ l) (printed-append (i + 1) xs ys) ∙ sym (append-assoc (lineOf i x) (printed (i + 1) xs) (printed (i + 1 + length xs) ys))
-    ∙ ap (λ (k : ℕ). lineOf i x ++ printed (i + 1) xs ++ printed k ys) e
 
 -- the answer of a line that departs is one
 pub refused-one : (b : Bool) → length (cond b refused13 []) ≡ cond b 1 0
@@ -46,8 +38,11 @@ answers-counted step answer s cs b =
 
 -- ---- a text of which lines were read
 
-module _ {S : Type 0} (step : S → Call → S) (answer : S → Call → Answer) (s : S) (i : ℕ) (ends : Bool) (n : ℕ) (t z : List ℕ) (p : Parsed)
-    (r : Reads ends n t z p) where
+module _ {S : Type 0} (step : S → Call → S) (answer : S → Call → Answer) (s : S) (i : ℕ) (ends : Bool) (n : ℕ) (t z : List ℕ)
+    (r : Reads ends n t z (parse ends n t)) where
+  abbrev p : Parsed
+  p = parse ends n t
+
   -- the answers of the lines read
   abbrev given : List Answer
   given = answersOf step answer s (callsRead p) ++ cond (eqb (p .verdict) departing) refused13 []
@@ -76,7 +71,7 @@ module _ {S : Type 0} (step : S → Call → S) (answer : S → Call → Answer)
       let d : departs (linesOf (t ++ z)) ≡ departs ls = r .departed ∙ rw h in
       let front = answersOf step answer s cs in
       let back = answersOf step answer (finalOf step answer s cs) (callsOf ls) in
-      let l : length front ≡ p .made = answers-long step answer s cs ∙ r .long in
+      let l : length front ≡ p .made = answers-long step answer s cs ∙ parse-calls ends n t in
       rw (h, c, d, append-nil front)
       (ap (λ (x : List Answer). printed i (x ++ cond (departs ls) refused13 [])) (answers-append step answer s cs (callsOf ls))
       ∙ ap (printed i) (append-assoc front back (cond (departs ls) refused13 []))

@@ -1,65 +1,21 @@
 -- What is read of the lines at the front of a text: their calls, and those behind them, are the calls of the whole text.
-use Prim.Native.Nat.{ℕ, zero, suc, _+_, _*_, _≤_}
+use Prim.Native.Nat.{ℕ, zero, suc, _+_, _≤_}
 use native.Mathlib.Omega.{arith}
 use mathlib.Core.Bool.{Bool, true, false, cond}
 use mathlib.Core.Path.{_≡_, refl, sym, _∙_, ap, subst}
 use mathlib.Core.List.{List, [], _∷_, _++_}
 use lib.Dec.{eqb}
-use lib.ListN.{length, getD, drop, length-append, length-drop, List·getD-append}
-use lib.Seq.{getD-append-add, drop-drop, drop-append-le}
+use lib.ListN.{length, drop, length-append}
+use lib.Seq.{drop-drop, drop-append-le}
 use Rattle.values.specs.declared.Call.{Call}
 use Rattle.values.proofs.Cases.{case}
-use Rattle.trace.specs.Calls.{callAt, isCallAt}
+use Rattle.trace.specs.Calls.{callAt}
 use Rattle.trace.specs.Fold.{callsIn}
 use Rattle.fields.specs.Lines.{Line, linesOf, numbersIn, isLine, callsOf, departs}
 use Rattle.fields.specs.Parse.{firstLine, sizeOf, decided, more, open-line, departing, Parsed, parse}
-use Rattle.fields.proofs.Parsing.{line-five}
-use Rattle.replay_terms.proofs.FirstLines.{lines-of, first-ended, size-inside, line-stands, decided-departs}
-
--- ---- five numbers before a list of calls
-
-module _ (five rest : List ℕ) (long : length five ≡ 5) where
-  -- a number behind them, and the first of five
-  number-behind : (i j : ℕ) → getD (five ++ rest) ((i + 1) * 5 + j) 0 ≡ getD rest (i * 5 + j) 0
-  number-behind i j =
-      let e : (i + 1) * 5 + j ≡ length five + (i * 5 + j) = omega arith in
-      ap (λ (k : ℕ). getD (five ++ rest) k 0) e ∙ getD-append-add five rest (i * 5 + j) 0
-
-  five-behind : (i : ℕ) → getD (five ++ rest) ((i + 1) * 5) 0 ≡ getD rest (i * 5) 0
-  five-behind i =
-      let e : (i + 1) * 5 ≡ length five + i * 5 = omega arith in
-      ap (λ (k : ℕ). getD (five ++ rest) k 0) e ∙ getD-append-add five rest (i * 5) 0
-
-  -- the calls behind them
-  calls-behind : (n i : ℕ) → callsIn n (five ++ rest) (i + 1) ≡ callsIn n rest i
-  unfolding callsIn
-  calls-behind zero i = refl
-  calls-behind (suc n) i =
-      let r = calls-behind n (i + 1) in
-      rw (five-behind i, number-behind i 1, number-behind i 2, number-behind i 3, number-behind i 4, r)
-
-  -- one of the five
-  number-here : (i : ℕ) → i ≤ 4 → getD (five ++ rest) i 0 ≡ getD five i 0
-  number-here i h = List·getD-append five rest 0 i (omega arith)
-
-  -- the first call
-  call-here : callAt (five ++ rest) 0 ≡ callAt five 0
-  call-here =
-      rw (number-here 0 (omega arith), number-here 1 (omega arith), number-here 2 (omega arith), number-here 3 (omega arith), number-here 4 (omega arith))
-
-  -- and whether it is one
-  is-call-here : isCallAt (five ++ rest) 0 ≡ isCallAt five 0
-  is-call-here = rw (number-here 0 (omega arith), number-here 1 (omega arith))
-
-  -- one call more at the front
-  pub calls-with : (n : ℕ) → isCallAt five 0 ≡ true → callsIn (n + 1) (five ++ rest) 0 ≡ callAt five 0 ∷ callsIn n rest 0
-  unfolding callsIn
-  calls-with n t =
-      let e : n + 1 ≡ suc n = omega arith in
-      let b = calls-behind n 0 in
-      ap (λ (k : ℕ). callsIn k (five ++ rest) 0) e ∙ rw (is-call-here ∙ t, call-here) (ap (λ (l : List Call). callAt five 0 ∷ l) b)
-
--- ---- what is read
+use Rattle.fields.proofs.First.{first-ended, first-within, line-stands}
+use Rattle.fields.proofs.Calls.{parse-first}
+use Rattle.replay_terms.proofs.FirstLines.{lines-of, decided-departs}
 
 -- the calls read
 abbrev pub callsRead : Parsed → List Call
@@ -69,14 +25,10 @@ callsRead p = callsIn (p .made) (p .numbers) 0
 pub record Reads (ends : Bool) (n : ℕ) (t z : List ℕ) (p : Parsed) : Type 0 where
   pub calls : callsOf (linesOf (t ++ z)) ≡ callsRead p ++ cond (eqb (p .verdict) departing) [] (callsOf (linesOf (drop (p .end) t ++ z)))
   pub departed : departs (linesOf (t ++ z)) ≡ cond (eqb (p .verdict) departing) true (departs (linesOf (drop (p .end) t ++ z)))
-  pub long : length (callsRead p) ≡ p .made
   -- the lines read, one that departs or those behind them, are lines of the text
   pub counted : p .made + cond (eqb (p .verdict) departing) 1 (length (linesOf (drop (p .end) t ++ z))) ≤ length (linesOf (t ++ z))
-  pub inside : p .end ≤ length t
-  -- at most n lines, as many as were asked for where more may come, and fewer before a line that departs
-  pub few : p .made ≤ n
+  -- as many lines as were asked for where more may come
   pub all-made : p .verdict ≡ more → p .made ≡ n
-  pub fewer : p .verdict ≡ departing → p .made + 1 ≤ n
   -- the verdict is one of the three, and a line that is not decided is not
   pub one-of : p .verdict ≤ 2
   pub undecided-line : p .verdict ≡ open-line → decided ends (drop (p .end) t) ≡ false
@@ -93,7 +45,7 @@ module _ (t z : List ℕ) (h : isLine (firstLine t) ≡ true) where
   whole-lines : linesOf (t ++ z) ≡ l ∷ linesOf (rest ++ z)
   whole-lines =
       let e = line-stands l h .has-ended in
-      let i = size-inside t e in
+      let i = first-within t e in
       let f = first-ended t z e in
       let n : 1 ≤ length (t ++ z) = (let k = length-append t z in omega arith) in
       let d : drop (sizeOf l) (t ++ z) ≡ rest ++ z = drop-append-le (sizeOf l) t z i in
@@ -116,12 +68,8 @@ reads-none ends t z =
     record {
       calls = refl;
       departed = refl;
-      long = refl;
       counted = omega arith;
-      inside = omega arith;
-      few = omega arith;
       all-made = λ e. refl;
-      fewer = λ e. absurd (omega arith);
       one-of = omega arith;
       undecided-line = λ e. absurd (omega arith);
     }
@@ -133,12 +81,8 @@ reads-open ends n t z h d =
     rw (h, d) (record {
       calls = refl;
       departed = refl;
-      long = refl;
       counted = omega arith;
-      inside = omega arith;
-      few = omega arith;
       all-made = λ e. absurd (omega arith);
-      fewer = λ e. absurd (omega arith);
       one-of = omega arith;
       undecided-line = λ e. d;
     })
@@ -156,12 +100,8 @@ reads-departing ends n t z none h d =
     rw (h, d) (record {
       calls = c;
       departed = g;
-      long = refl;
       counted = omega arith;
-      inside = omega arith;
-      few = omega arith;
       all-made = λ e. absurd (omega arith);
-      fewer = λ e. omega arith;
       one-of = omega arith;
       undecided-line = λ e. absurd (omega arith);
     })
@@ -174,11 +114,9 @@ reads-line ends n t z h r =
     let p = parse ends n (rest t z h) in
     let s = sizeOf (firstLine t) in
     let five = numbersIn (firstLine t) in
-    let w = calls-with five (p .numbers) (line-five (firstLine t) h) (p .made) (line-stands (firstLine t) h .is-call) in
+    let f = parse-first ends n t h in
+    let w : callsIn (p .made + 1) (five ++ p .numbers) 0 ≡ callAt five 0 ∷ callsRead p = rw h at f in
     let d : drop (p .end) (rest t z h) ≡ drop (s + p .end) t = drop-drop (p .end) s t in
-    let i = size-inside t (line-stands (firstLine t) h .has-ended) in
-    let j = r .inside in
-    let k = length-drop s t in
     let c : callsOf (linesOf (t ++ z)) ≡ callAt five 0 ∷ callsRead p ++ cond (eqb (p .verdict) departing) [] (callsOf (linesOf (drop (s + p .end) t ++ z))) =
     whole-calls t z h ∙ ap (λ (x : List Call). callAt five 0 ∷ x) (r .calls)
     ∙ ap (λ (x : List ℕ). callAt five 0 ∷ callsRead p ++ cond (eqb (p .verdict) departing) [] (callsOf (linesOf (x ++ z)))) d
@@ -186,8 +124,6 @@ reads-line ends n t z h r =
     let g : departs (linesOf (t ++ z)) ≡ cond (eqb (p .verdict) departing) true (departs (linesOf (drop (s + p .end) t ++ z))) =
     whole-departs t z h ∙ r .departed ∙ ap (λ (x : List ℕ). cond (eqb (p .verdict) departing) true (departs (linesOf (x ++ z)))) d
     in
-    let few = r .few in
-    let l = r .long in
     let q : p .made + cond (eqb (p .verdict) departing) 1 (length (linesOf (drop (s + p .end) t ++ z))) ≤ length (linesOf (rest t z h ++ z)) =
     subst (λ (x : List ℕ). p .made + cond (eqb (p .verdict) departing) 1 (length (linesOf (x ++ z))) ≤ length (linesOf (rest t z h ++ z))) d (r .counted)
     in
@@ -196,12 +132,8 @@ reads-line ends n t z h r =
     rw h (record {
       calls = c ∙ ap (λ (x : List Call). x ++ cond (eqb (p .verdict) departing) [] (callsOf (linesOf (drop (s + p .end) t ++ z)))) (sym w);
       departed = g;
-      long = ap length w ∙ omega arith;
       counted = omega arith;
-      inside = omega arith;
-      few = omega arith;
       all-made = λ e. let m = r .all-made e in omega arith;
-      fewer = λ e. let m = r .fewer e in omega arith;
       one-of = r .one-of;
       undecided-line = u;
     })

@@ -6,15 +6,16 @@ use mathlib.Core.Path.{_≡_, refl, sym, _∙_, ap, subst}
 use mathlib.Core.List.{List, [], _∷_, _++_}
 use lib.Dec.{eqb, leb}
 use lib.ListN.{length, take, drop, replicate, length-take}
-use borrow.Author.Tests.{leb-true, leb-false}
 use Rattle.values.specs.Lists.{any}
 use Rattle.values.specs.declared.Call.{Call}
-use Rattle.values.proofs.Cases.{case, and-right}
+use Rattle.values.proofs.Cases.{case}
 use Rattle.trace.specs.Fold.{answersOf, finalOf}
 use Rattle.printed.specs.Printed.{printed}
 use Rattle.printed.proofs.Decimal.{decimal-ten}
 use Rattle.fields.specs.Lines.{linesOf, callsOf}
-use Rattle.fields.specs.Parse.{firstLine, decided, departing, Parsed, parse}
+use Rattle.fields.specs.Parse.{decided, departing, Parsed, parse}
+use Rattle.fields.proofs.First.{undecided, parse-few}
+use Rattle.fields.proofs.Calls.{parse-calls, parse-room, open-short}
 use Rattle.machine.specs.Machine.{Machine}
 use Rattle.soundness_test.specs.Formed.{Formed}
 use Rattle.soundness_laws.proofs.LowBytes.{bytes-zeros}
@@ -42,14 +43,14 @@ use Rattle.replay.specs.Parts.{
   settled,
   replayed,
 }
+use Rattle.replay.proofs.Keeping.{kept-all, kept-means}
+use Rattle.replay.proofs.Parting.{roomy}
 use Rattle.replay_terms.specs.Uses.{Use, endsWith, used, IsKept, Well, StaysWell, StaysKept, StartsWell}
 use Rattle.replay_terms.specs.Printed.{zeros}
-use Rattle.replay_terms.proofs.FirstLines.{first-open, open-feedless, undecided}
+use Rattle.replay_terms.proofs.FirstLines.{open-feedless}
 use Rattle.replay_terms.proofs.Reading.{callsRead, Reads, reads}
 use Rattle.replay_terms.proofs.Printing.{answers-counted, front-padded}
 use Rattle.replay_terms.proofs.OnePart.{
-  kept-means,
-  kept-so,
   part-waiting,
   part-stopped,
   part-replayed,
@@ -78,9 +79,7 @@ numbers-front (c ∷ cs) ds n = (n .0, numbers-front cs ds (n .1))
 put-kept : (h : Held) (bytes out : List ℕ) (taken : ℕ) → h .lines ≤ linesLimit → h .held ≤ 63 → any isFeed (begunLine h) ≡ false
     → length bytes - min (length bytes) (length out) ≤ 64 → IsKept (putOut h bytes out taken .replay)
 unfolding putOut
-put-kept h bytes out taken l k f w =
-    kept-so (h .lines) (h .held) (length bytes - min (length bytes) (length out)) (h .begun)
-    (record { few-lines = l; few-held = k; few-waiting = w; feedless = f })
+put-kept h bytes out taken l k f w = sym (kept-all (h .lines) (h .held) (length bytes - min (length bytes) (length out)) (h .begun) l k w f)
 
 -- lines, machine and refusal behind bytes put out
 put-lines : (h : Held) (bytes out : List ℕ) (taken : ℕ) → putOut h bytes out taken .replay .lines ≡ h .lines
@@ -130,12 +129,7 @@ none-carried = record { few = omega arith; feedless = refl }
 
 -- a line that is not decided
 open-carried : (ends : Bool) (behind : List ℕ) → decided ends behind ≡ false → Carried behind
-open-carried ends behind d =
-    let u = undecided ends behind d in
-    let o = first-open behind (u .0) in
-    let l : length (firstLine behind .bytes) ≡ length behind = ap length o in
-    let f = leb-false 64 (length (firstLine behind .bytes)) (u .1) in
-    record { few = omega arith; feedless = open-feedless behind (u .0) }
+open-carried ends behind d = record { few = open-short ends behind d; feedless = open-feedless behind (undecided ends behind d .0) }
 
 -- by the verdict
 carried-by : (ends : Bool) (v : ℕ) (behind : List ℕ) → v ≤ 2 → (v ≡ 1 → decided ends behind ≡ false) → Carried (carried v behind)
@@ -185,14 +179,14 @@ module _ (ends : Bool) (n : ℕ) (h : Held) (text out : List ℕ) (f : stateRefu
   answers-few : p .made + stops (p .verdict) ≤ n
   answers-few =
       let r = read in
-      let few = r .few in
-      verdict-cases (p .verdict) (r .one-of) (λ e. rw e (omega arith)) (λ e. rw e (omega arith)) (λ e. let g = r .fewer e in rw e (omega arith))
+      let few = parse-few ends n t in
+      verdict-cases (p .verdict) (r .one-of) (λ e. rw e (omega arith)) (λ e. rw e (omega arith)) (λ e. let g = parse-room ends n t e in rw e (omega arith))
 
   -- they have at most 34 bytes each
   bytes-short : h .lines + p .made + stops (p .verdict) ≤ linesLimit → length bytes ≤ n * 34
   bytes-short l =
       let c = answers-counted next answered (h .machine) (callsRead p) (eqb (p .verdict) departing) in
-      let k = read .long in
+      let k = parse-calls ends n t in
       let g = answers-few in
       let s = printed-short (h .lines + 1) (parsedAnswers (h .machine) p) answers-short (omega arith) in
       omega arith
@@ -237,7 +231,7 @@ module _ (ends : Bool) (n : ℕ) (h : Held) (text out : List ℕ) (f : stateRefu
 few-wait : (held room k : ℕ) → k ≤ linesAtMost held room * 34 → k - min k room ≤ 64
 few-wait held room k =
     case (eqb held 0 && leb 34 room)
-    (λ t. let r = leb-true 34 room (and-right (eqb held 0) (leb 34 room) t) in rw t (λ h. omega arith))
+    (λ t. let r = roomy held room t .1 in rw t (λ h. omega arith))
     (λ t. rw t (λ h. omega arith))
 
 -- ---- a part
@@ -252,8 +246,8 @@ module _ (h : Held) (left : List ℕ) (u : Use) (g : Well h) where
       let k = kept-means (h .lines) (h .held) (h .waiting) (h .begun) (g .is-kept) in
       let e = part-waiting (endsWith u left) h offer (u .slice) (g .is-kept) w in
       let l = length-take (h .waiting) (h .pending) in
-      let few = k .few-waiting in
-      subst StaysWell (sym e) (put-stays h (waitingBytes h) (u .slice) 0 (k .few-lines) (k .few-held) (k .feedless) (omega arith) (g .formed))
+      let few = k .waiting-low in
+      subst StaysWell (sym e) (put-stays h (waitingBytes h) (u .slice) 0 (k .lines-low) (k .held-low) (k .no-feed) (omega arith) (g .formed))
 
   -- a line departed
   stays-stopped : eqb (h .waiting) 0 ≡ true → eqb (h .stopped) 0 ≡ false → StaysWell (used h left u)
@@ -292,7 +286,6 @@ starts-well h n e =
     let b = n .none-begun in
     let w = n .none-waiting in
     record {
-      is-kept = kept-so (h .lines) (h .held) (h .waiting) (h .begun)
-          (record { few-lines = omega arith; few-held = omega arith; few-waiting = omega arith; feedless = rw b });
+      is-kept = sym (kept-all (h .lines) (h .held) (h .waiting) (h .begun) (omega arith) (omega arith) (omega arith) (rw b));
       formed = λ z. subst Formed (sym e) zero-formed;
     }

@@ -14,10 +14,10 @@ use Rattle.printed.specs.Printed.{printed}
 use Rattle.step.specs.Run.{next, answered}
 use Rattle.replay.specs.Replay.{lineAnswers, prints, replayFrom}
 use Rattle.replay.specs.Parts.{Held, begunLine, waitingBytes, kept, Parted, putOut, linesAtMost, replayed}
+use Rattle.replay.proofs.Keeping.{kept-means}
 use Rattle.replay_terms.specs.Uses.{Use, endsWith, used, wrote, fed, toPrint, PartsAgree, NothingHeld, AllPrinted}
 use Rattle.replay_terms.proofs.Printing.{restOf, put-printed}
 use Rattle.replay_terms.proofs.OnePart.{
-  kept-means,
   some-lines,
   part-refused,
   part-waiting,
@@ -74,7 +74,7 @@ module _ (h : Held) (left : List ℕ) (u : Use) where
   whole-replayed k w s =
       let n = linesAtMost (h .held) (length (u .slice)) in
       let r = replayed (endsWith u left) n h text (u .slice) in
-      let f = kept-means (h .lines) (h .held) (h .waiting) (h .begun) k .feedless in
+      let f = kept-means (h .lines) (h .held) (h .waiting) (h .begun) k .no-feed in
       ap (λ (l : List ℕ). wrote r ++ toPrint (r .replay) (drop (r .taken) l)) (sym (take-append-drop (u .offered) left))
       ∙ replayed-printed (endsWith u left) n h text z (u .slice) none-behind (some-lines (h .held) (length (u .slice))) f
       ∙ whole-text w s

@@ -12,6 +12,7 @@ use Rattle.fields.specs.Lines.{linesOf}
 use Rattle.machine.specs.Machine.{Machine}
 use Rattle.replay.specs.Replay.{replayFrom}
 use Rattle.replay.specs.Parts.{Held, begunLine, waitingBytes, linesLimit, isFeed, Parted, putOut, linesAtMost, machineAfter, settled, replayed}
+use Rattle.replay.proofs.Keeping.{kept-means}
 use Rattle.replay_terms.specs.Uses.{
   Use,
   endsWith,
@@ -27,7 +28,6 @@ use Rattle.replay_terms.specs.Uses.{
 }
 use Rattle.replay_terms.proofs.Printing.{front-padded}
 use Rattle.replay_terms.proofs.OnePart.{
-  kept-means,
   some-lines,
   part-waiting,
   part-stopped,
@@ -130,7 +130,7 @@ module _ (h : Held) (left : List ℕ) (u : Use) (k : IsKept h) where
       let n = linesAtMost (h .held) (length (u .slice)) in
       let z = drop (u .offered) left in
       let e : offer ++ z ≡ left = take-append-drop (u .offered) left in
-      let f = kept-means (h .lines) (h .held) (h .waiting) (h .begun) k .feedless in
+      let f = kept-means (h .lines) (h .held) (h .waiting) (h .begun) k .no-feed in
       let r = replayed (endsWith u left) n h offer (u .slice) in
       let c = replayed-count (endsWith u left) n h offer z (u .slice) (none-behind h left u) (some-lines (h .held) (length (u .slice))) f in
       let x = ap (λ (l : List ℕ). linesInAll (r .replay) (drop (r .taken) l)) e in

@@ -4,15 +4,14 @@ use mathlib.Core.Bool.{Bool, true, false, cond}
 use mathlib.Core.Path.{_≡_}
 use mathlib.Core.List.{List, [], _∷_, _++_}
 use lib.ListN.{length, replicate}
-use Rattle.values.specs.declared.Kind.{Kind}
-use Rattle.values.specs.declared.Kind.the-variants.{Load, SignedLoad, Store}
+use Rattle.values.specs.Kinds.{isStore}
 use Rattle.values.specs.declared.Call.{Call}
 use Rattle.values.specs.declared.Call.the-variants.{Read, Write}
 use Rattle.values.specs.declared.Call.the-variants as calls
 use Rattle.values.specs.declared.Answer.{Answer}
 use Rattle.values.specs.declared.Answer.the-variants as answer
 use Rattle.trace.specs.Codes.{numbersOf}
-use Rattle.printed.proofs.Told.{feeds}
+use Rattle.printed.specs.Printed.{feeds}
 use Rattle.fields.specs.Lines.{Line, linesOf, callsOf, departs}
 use Rattle.machine.specs.Machine.{Machine}
 use Rattle.step.specs.Run.{next, answered}
@@ -72,11 +71,6 @@ ThirteenLast = (m : Machine) (lines : List Line) → ThirteenOnce m lines
 -- ---- stores and writes
 
 -- a store or a CP15 write
-abbrev pub isStore : Kind → Bool
-isStore Load = false
-isStore SignedLoad = false
-isStore (Store v) = true
-
 abbrev pub storesOrWrites : Call → Bool
 storesOrWrites (calls.Access a) = isStore (a .kind)
 storesOrWrites (Read t) = false
