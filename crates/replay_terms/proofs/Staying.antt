@@ -25,7 +25,7 @@ use Rattle.step.specs.Run.{next, answered, final}
 use Rattle.step.proofs.SoundKept.{start-sound}
 use Rattle.terms.specs.Term3.{AllNumbers}
 use Rattle.answers.proofs.Told.{run-told, served-formed}
-use Rattle.replay.specs.Replay.{refused13, zeroMachine}
+use Rattle.replay.specs.Replay.{refused13, zeroMachine, zeroMemory}
 use Rattle.replay.specs.Parts as parts
 use Rattle.replay.specs.Parts.{
   Held,
@@ -46,7 +46,6 @@ use Rattle.replay.specs.Parts.{
 use Rattle.replay.proofs.Keeping.{kept-all, kept-means}
 use Rattle.replay.proofs.Parting.{roomy}
 use Rattle.replay_terms.specs.Uses.{Use, endsWith, used, IsKept, Well, StaysWell, StaysKept, StartsWell}
-use Rattle.replay_terms.specs.Printed.{zeros}
 use Rattle.replay_terms.proofs.FirstLines.{open-feedless}
 use Rattle.replay_terms.proofs.Reading.{callsRead, Reads, reads}
 use Rattle.replay_terms.proofs.Printing.{answers-counted, front-padded}
@@ -277,7 +276,7 @@ stays-kept = stays
 
 -- the machine of a start on zero bytes has its shape
 zero-formed : Formed zeroMachine
-zero-formed = start-sound zeros (replicate 16384 0) (bytes-zeros 65536) (bytes-zeros 16384) start-served .0
+zero-formed = start-sound zeroMemory (replicate 16384 0) (bytes-zeros 65536) (bytes-zeros 16384) start-served .0
 
 pub starts-well : StartsWell
 unfolding any

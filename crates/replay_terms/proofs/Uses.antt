@@ -13,9 +13,9 @@ use Rattle.trace.specs.Fold.{answersOf}
 use Rattle.printed.specs.Printed.{printed}
 use Rattle.step.specs.Run.{next, answered}
 use Rattle.replay.specs.Replay.{lineAnswers, prints, replayFrom}
-use Rattle.replay.specs.Parts.{Held, begunLine, waitingBytes, kept, Parted, putOut, linesAtMost, replayed}
+use Rattle.replay.specs.Parts.{Held, begunLine, waitingBytes, kept, Parted, putOut, linesAtMost, replayed, startReplay}
 use Rattle.replay.proofs.Keeping.{kept-means}
-use Rattle.replay_terms.specs.Uses.{Use, endsWith, used, wrote, fed, toPrint, PartsAgree, NothingHeld, AllPrinted}
+use Rattle.replay_terms.specs.Uses.{Use, endsWith, used, wrote, fed, toPrint, PartsAgree, NothingHeld, AllPrinted, StartBegins}
 use Rattle.replay_terms.proofs.Printing.{restOf, put-printed}
 use Rattle.replay_terms.proofs.OnePart.{
   some-lines,
@@ -131,3 +131,12 @@ all-printed h text us n d =
     sym (append-nil (f .written))
     ∙ ap (λ (l : List ℕ). f .written ++ l) (sym (end-prints (f .replay) (f .left) (d .none-left) (d .none-waiting) (d .stopped-or-ended)))
     ∙ parts-agree h text us ∙ start-prints h text n
+
+-- a start holds nothing
+pub start-begins : StartBegins
+unfolding startReplay
+start-begins memory store =
+    record {
+      nothing-held = record { no-lines = refl; none-begun = refl; none-waiting = refl; not-stopped = refl };
+      machine = refl;
+    }

@@ -19,7 +19,7 @@ use Rattle.plain.specs.Plain.{plainStart, plainNext, plainAnswered}
 use Rattle.terms.specs.History.{noHistory}
 use Rattle.terms.specs.Rules.{Keeps}
 use Rattle.terms.specs.Positions.{keepsRules}
-use Rattle.replay.specs.Replay.{refused13, lineAnswers, prints, replayFrom, replay}
+use Rattle.replay.specs.Replay.{refused13, lineAnswers, prints, replayFrom, zeroMemory, replay}
 
 -- ---- the example
 
@@ -82,17 +82,13 @@ ZeroPrinted = (m : Machine) (c : Call) → storesOrWrites c ≡ true → numbers
 
 -- ---- the plain machine
 
--- "Memory is 65,536 zero bytes."
-abbrev pub zeros : List ℕ
-zeros = replicate 65536 0
-
 -- what the plain machine prints of a text
 abbrev pub plainReplay : List ℕ → List ℕ
-plainReplay text = prints plainNext plainAnswered (plainStart zeros) 1 text
+plainReplay text = prints plainNext plainAnswered (plainStart zeroMemory) 1 text
 
 -- Term 3, of a text: where its calls keep the rules, the replay prints what the plain machine prints. With the rules call by call, and over positions.
 abbrev pub PlainReplay : Type 0
-PlainReplay = (text : List ℕ) → Keeps (plainStart zeros) noHistory (callsOf (linesOf text)) → replay text ≡ plainReplay text
+PlainReplay = (text : List ℕ) → Keeps (plainStart zeroMemory) noHistory (callsOf (linesOf text)) → replay text ≡ plainReplay text
 
 abbrev pub PlainReplayPrinted : Type 0
-PlainReplayPrinted = (text : List ℕ) → keepsRules zeros (callsOf (linesOf text)) ≡ true → replay text ≡ plainReplay text
+PlainReplayPrinted = (text : List ℕ) → keepsRules zeroMemory (callsOf (linesOf text)) ≡ true → replay text ≡ plainReplay text

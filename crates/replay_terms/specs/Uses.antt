@@ -8,9 +8,10 @@ use lib.ListN.{length, take, drop, replicate}
 use Rattle.fields.specs.Lines.{linesOf}
 use Rattle.soundness_test.specs.Formed.{Formed}
 use Rattle.step.specs.Meets.{stateRefusal}
+use Rattle.step.specs.Start.{started}
 use Rattle.step.specs.Run.{next, answered}
 use Rattle.replay.specs.Replay.{prints, replayFrom, zeroMachine, replay}
-use Rattle.replay.specs.Parts.{Held, begunLine, waitingBytes, linesLimit, kept, Parted, part}
+use Rattle.replay.specs.Parts.{Held, begunLine, waitingBytes, linesLimit, kept, Parted, startReplay, part}
 
 -- A use of a part: how many of the bytes still to be taken are offered, whether the caller tells that the text ends, and the slice lent for the output.
 pub record Use : Type 0 where
@@ -122,6 +123,14 @@ StaysKept = (h : Held) (left : List ℕ) (u : Use) → Well h → used h left u 
 -- and at the start
 abbrev pub StartsWell : Type 0
 StartsWell = (h : Held) → NothingHeld h → h .machine ≡ zeroMachine → Well h
+
+-- A start holds nothing, on the machine that the library's start makes; on 65,536 zero bytes with a cache store of zeros that is the replay's.
+pub record Begins (memory store : List ℕ) : Type 0 where
+  pub nothing-held : NothingHeld (startReplay memory store .replay)
+  pub machine : startReplay memory store .replay .machine ≡ started memory store .machine
+
+abbrev pub StartBegins : Type 0
+StartBegins = (memory store : List ℕ) → Begins memory store
 
 -- how many lines there are in all: those replayed, and those of the line begun and the rest of the text, unless a line departed
 unfoldable pub linesInAll : Held → List ℕ → ℕ
