@@ -91,8 +91,8 @@ module _ (ends : Bool) where
 
   -- the calls of the lines, by the first
   pub parse-first : (n : ℕ) (t : List ℕ) → isLine (firstLine t) ≡ true
-      → callsIn (parse ends (suc n) t .made) (parse ends (suc n) t .numbers) 0
-      ≡ callAt (numbersIn (firstLine t)) 0 ∷ callsIn (parse ends n (drop (sizeOf (firstLine t)) t) .made) (parse ends n (drop (sizeOf (firstLine t)) t) .numbers) 0
+      → callsIn (parse ends (suc n) t .made) (parse ends (suc n) t .numbers) 0 ≡ callAt (numbersIn (firstLine t)) 0
+      ∷ callsIn (parse ends n (drop (sizeOf (firstLine t)) t) .made) (parse ends n (drop (sizeOf (firstLine t)) t) .numbers) 0
   unfolding parse
   parse-first n t h =
       let p : Parsed = parse ends n (drop (sizeOf (firstLine t)) t) in

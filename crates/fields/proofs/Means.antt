@@ -155,7 +155,8 @@ module _ (ds : List ℕ) (h : all isDigit ds ≡ true) where
   means-end n =
       let l : length (ds ++ []) ≤ length ds = (let y = ap length (append-nil ds) in omega arith) in
       let k : getD (ds ++ []) (length ds) 0 ≡ 0 = List·getD-eq-default (ds ++ []) 0 l in
-      means-bad n (ds ++ []) (field-behind n (ds ++ []) ds (digits-before ds [] h refl) h 0 k (zero-behind n)) (test-is n [] [] [] (lineFrom [] false) refl refl)
+      means-bad n (ds ++ []) (field-behind n (ds ++ []) ds (digits-before ds [] h refl) h 0 k (zero-behind n))
+      (test-is n [] [] [] (lineFrom [] false) refl refl)
     where
       zero-behind : (n : ℕ) → 0 ≡ behind n → ⊥
       zero-behind zero e = absurd (omega arith)
@@ -216,7 +217,9 @@ module _ (ds : List ℕ) (h : all isDigit ds ≡ true) where
             → fieldsOf (ds ++ 44 ∷ firstLine q .bytes) ≡ (ds ++ []) ∷ fieldsOf (firstLine q .bytes) → Means n t
         by zero below test line fields =
             let x = some-field (firstLine q .bytes) in
-            let z : eqb (suc (length (fieldsOf (firstLine q .bytes)))) 1 ≡ false = ne-eqb (suc (length (fieldsOf (firstLine q .bytes)))) 1 (λ w. absurd (omega arith)) in
+            let z : eqb (suc (length (fieldsOf (firstLine q .bytes)))) 1 ≡ false =
+            ne-eqb (suc (length (fieldsOf (firstLine q .bytes)))) 1 (λ w. absurd (omega arith))
+            in
             no-field zero (λ w. absurd (omega arith)) (test ∙ ap (λ (y : Bool). firstLine q .ended && (y && (isField (ds ++ [])
             && all isField (fieldsOf (firstLine q .bytes))))) z ∙ and-false (firstLine q .ended) false refl)
         by (suc m) below test line fields =

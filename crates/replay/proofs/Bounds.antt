@@ -13,7 +13,8 @@ pub record Bounded (taken written text out : ℕ) : Type 0 where
   pub taken-low : taken ≤ text
   pub written-low : written ≤ out
 
-put-bounded : (h : Held) (bytes out : List ℕ) (taken n : ℕ) → taken ≤ n → Bounded (putOut h bytes out taken .taken) (putOut h bytes out taken .written) n (length out)
+put-bounded : (h : Held) (bytes out : List ℕ) (taken n : ℕ) → taken ≤ n
+    → Bounded (putOut h bytes out taken .taken) (putOut h bytes out taken .written) n (length out)
 unfolding putOut
 put-bounded h bytes out taken n k = record { taken-low = k; written-low = omega arith }
 
@@ -31,6 +32,7 @@ part-bounded ends h text out =
     (λ t. rw t (record { taken-low = omega arith; written-low = omega arith }))
 
 -- what a part left is bounded so
-pub left-bounded : (ends : Bool) (h : Held) (text out : List ℕ) (p : Parted) → p ≡ part ends h text out → Bounded (p .taken) (p .written) (length text) (length out)
+pub left-bounded : (ends : Bool) (h : Held) (text out : List ℕ) (p : Parted) → p ≡ part ends h text out
+    → Bounded (p .taken) (p .written) (length text) (length out)
 left-bounded ends h text out p e =
     subst (λ (x : Parted). Bounded (x .taken) (x .written) (length text) (length out)) (sym e) (part-bounded ends h text out)

@@ -23,6 +23,7 @@ use Rattle.printed.proofs.Told.{told-line, told-code, AllTold, told-lines, prin
 use Rattle.fields.specs.Parse.{departing, Parsed, parse}
 use Rattle.fields.specs.Code.{LinesRead}
 use Rattle.fields.specs.declared.Parsed as read
+use Rattle.fields.proofs.First.{parse-few}
 use Rattle.fields.proofs.Calls.{parse-32, parse-long, parse-calls, parse-room}
 use Rattle.answers.specs.Signed.{Tells}
 use Rattle.answers.proofs.Told.{list-told}
@@ -86,6 +87,14 @@ pub codes-low : (calls codes : List ℕ) (ys : List Answer) → AllTold calls co
 codes-low calls codes ys t k h = subst (λ (j : ℕ). getD codes j 0 < 0x300000000) (zero-add k) (told-low calls codes 0 ys t k h)
 
 -- ---- lines parsed, run and printed
+
+-- the lines made, and one that departs, are as many as asked at most
+pub made-few : (ends : Bool) (n : ℕ) (t : List ℕ) → parse ends n t .made + stops (parse ends n t .verdict) ≤ n
+made-few ends n t =
+    let few = parse-few ends n t in
+    case (eqb (parse ends n t .verdict) departing)
+    (λ u. let k = parse-room ends n t (eqb-true (parse ends n t .verdict) 2 u) in rw u (omega arith))
+    (λ u. rw u (omega arith))
 
 module _ (m : Machine) (ends : Bool) (n : ℕ) (text calls : List ℕ) (p : read.Parsed) (l : LinesRead (parse ends n text) calls p) where
   abbrev P : Parsed
@@ -155,13 +164,7 @@ module _ (m : Machine) (ends : Bool) (n : ℕ) (text calls : List ℕ) (p : read
           ∙ ap (λ (v : ℕ). printed (lines + 1) (answers m cs ++ cond (eqb v departing) refused13 [])) (l .verdict)
 
       stops-room : p .made + stops (p .verdict) ≤ n
-      stops-room =
-          case (eqb (p .verdict) departing)
-          (λ u.
-          let k = parse-room ends n text (sym (l .verdict) ∙ eqb-true (p .verdict) 2 u) in
-          let made = l .made in
-          rw u (omega arith))
-          (λ u. rw u (omega arith))
+      stops-room = rw (l .made, l .verdict) (made-few ends n text)
 
       pub batch-laid : Laid out after 0 end (n * 34) (printed (lines + 1) (parsedAnswers m P))
       batch-laid =

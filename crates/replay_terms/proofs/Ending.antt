@@ -22,7 +22,7 @@ use Rattle.replay.specs.Parts.{Held, begunLine, waitingBytes, isFeed, kept, Par
 use Rattle.replay.proofs.Keeping.{kept-means}
 use Rattle.replay_terms.specs.Uses.{Use, endsWith, used, fed, toPrint, WaitingThere, IsKept, NothingComes, GoesOn, Repeated}
 use Rattle.replay_terms.proofs.Reading.{callsRead}
-use Rattle.replay_terms.proofs.Printing.{restOf, answers-counted}
+use Rattle.replay_terms.proofs.Printing.{restOf, to-print, answers-counted}
 use Rattle.replay_terms.proofs.OnePart.{
   some-lines,
   part-refused,
@@ -38,7 +38,7 @@ use Rattle.replay_terms.proofs.OnePart.{
   after-open,
   by-verdict,
 }
-use Rattle.replay_terms.proofs.Uses.{to-print, none-behind, whole-text, parts-agree, start-prints, nothing-printed}
+use Rattle.replay_terms.proofs.Uses.{none-behind, whole-text, parts-agree, start-prints, nothing-printed}
 
 -- a list without elements
 no-elements : (l : List ℕ) → length l ≡ 0 → l ≡ []

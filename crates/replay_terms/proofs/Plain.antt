@@ -31,7 +31,7 @@ line-numbers : (l : Line) → isLine l ≡ true → AllNumbers (callsIn 1 (numbe
 line-numbers l t = calls-numbers (numbersIn l) (line-32 l t) 1 0
 
 -- and so have the calls of lines
-pub lines-numbers : (lines : List Line) → AllNumbers (callsOf lines)
+lines-numbers : (lines : List Line) → AllNumbers (callsOf lines)
 unfolding callsOf AllNumbers callsIn
 lines-numbers [] = tt
 lines-numbers (l ∷ ls) =

@@ -88,6 +88,11 @@ module _ {S : Type 0} (step : S → Call → S) (answer : S → Call → Answer)
 abbrev pub restOf : Held → List ℕ → List ℕ
 restOf h left = cond (eqb (h .stopped) 0) (prints next answered (h .machine) (h .lines + 1) (begunLine h ++ left)) []
 
+-- what is still to be printed, by what waits and the rest
+pub to-print : (h : Held) (left : List ℕ) → toPrint h left ≡ waitingBytes h ++ restOf h left
+unfolding toPrint
+to-print h left = refl
+
 -- bytes with zeros behind them
 pub front-padded : (bytes : List ℕ) → take (length bytes) (padded bytes) ≡ bytes
 front-padded bytes = take-at bytes (replicate (64 - length bytes) 0) (length bytes) refl
@@ -108,8 +113,8 @@ module _ (h : Held) (bytes out : List ℕ) (taken : ℕ) where
 
   -- what is then to be printed
   put-rest : (left : List ℕ) → toPrint (putOut h bytes out taken .replay) left ≡ waitingBytes (putOut h bytes out taken .replay) ++ restOf h left
-  unfolding putOut toPrint
-  put-rest left = refl
+  unfolding putOut
+  put-rest left = to-print (putOut h bytes out taken .replay) left
 
   -- what is written, and what is then to be printed
   pub put-printed : (left : List ℕ) → wrote (putOut h bytes out taken) ++ toPrint (putOut h bytes out taken .replay) left ≡ bytes ++ restOf h left

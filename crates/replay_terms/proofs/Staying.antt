@@ -12,10 +12,9 @@ use Rattle.values.proofs.Cases.{case}
 use Rattle.trace.specs.Fold.{answersOf, finalOf}
 use Rattle.printed.specs.Printed.{printed}
 use Rattle.printed.proofs.Decimal.{decimal-ten}
-use Rattle.fields.specs.Lines.{linesOf, callsOf}
 use Rattle.fields.specs.Parse.{decided, departing, Parsed, parse}
-use Rattle.fields.proofs.First.{undecided, parse-few}
-use Rattle.fields.proofs.Calls.{parse-calls, parse-room, open-short}
+use Rattle.fields.proofs.First.{undecided}
+use Rattle.fields.proofs.Calls.{parse-32, parse-calls, open-short}
 use Rattle.machine.specs.Machine.{Machine}
 use Rattle.soundness_test.specs.Formed.{Formed}
 use Rattle.soundness_laws.proofs.LowBytes.{bytes-zeros}
@@ -24,6 +23,7 @@ use Rattle.step.specs.Call.{served}
 use Rattle.step.specs.Run.{next, answered, final}
 use Rattle.step.proofs.SoundKept.{start-sound}
 use Rattle.terms.specs.Term3.{AllNumbers}
+use Rattle.terms.proofs.Corollaries.{calls-numbers}
 use Rattle.answers.proofs.Told.{run-told, served-formed}
 use Rattle.replay.specs.Replay.{refused13, zeroMachine, zeroMemory}
 use Rattle.replay.specs.Parts as parts
@@ -45,6 +45,7 @@ use Rattle.replay.specs.Parts.{
 }
 use Rattle.replay.proofs.Keeping.{kept-all, kept-means}
 use Rattle.replay.proofs.Parting.{roomy}
+use Rattle.replay.proofs.Printing.{made-few}
 use Rattle.replay_terms.specs.Uses.{Use, endsWith, used, IsKept, Well, StaysWell, StaysKept, StartsWell}
 use Rattle.replay_terms.proofs.FirstLines.{open-feedless}
 use Rattle.replay_terms.proofs.Reading.{callsRead, Reads, reads}
@@ -55,7 +56,7 @@ use Rattle.replay_terms.proofs.OnePart.{
   part-replayed,
   verdict-cases,
 }
-use Rattle.replay_terms.proofs.Plain.{lines-numbers, start-served}
+use Rattle.replay_terms.proofs.Plain.{start-served}
 use Rattle.replay_terms.proofs.Widths.{Short, told-short, short-append, printed-short}
 
 -- ---- the machine
@@ -65,12 +66,6 @@ final-formed : (m : Machine) (cs : List Call) → (stateRefusal m ≡ 0 → Form
 unfolding finalOf AllNumbers
 final-formed m [] f n = f
 final-formed m (c ∷ cs) f n = final-formed (served m c .machine) cs (served-formed m c f (n .0)) (n .1)
-
--- the front of a list of calls
-numbers-front : (cs ds : List Call) → AllNumbers (cs ++ ds) → AllNumbers cs
-unfolding AllNumbers
-numbers-front [] ds n = tt
-numbers-front (c ∷ cs) ds n = (n .0, numbers-front cs ds (n .1))
 
 -- ---- bytes put out
 
@@ -159,9 +154,7 @@ module _ (ends : Bool) (n : ℕ) (h : Held) (text out : List ℕ) (f : stateRefu
 
   -- "32 bits each"
   numbers : AllNumbers (callsRead p)
-  numbers =
-      numbers-front (callsRead p) (cond (eqb (p .verdict) departing) [] (callsOf (linesOf (behind ++ []))))
-      (subst AllNumbers (read .calls) (lines-numbers (linesOf (t ++ []))))
+  numbers = calls-numbers (p .numbers) (parse-32 ends n t) (p .made) 0
 
   -- each answer's number is short
   answers-short : Short (parsedAnswers (h .machine) p)
@@ -174,19 +167,12 @@ module _ (ends : Bool) (n : ℕ) (h : Held) (text out : List ℕ) (f : stateRefu
       last true = thirteen-short
       last false = nothing-short
 
-  -- at most as many as were asked for
-  answers-few : p .made + stops (p .verdict) ≤ n
-  answers-few =
-      let r = read in
-      let few = parse-few ends n t in
-      verdict-cases (p .verdict) (r .one-of) (λ e. rw e (omega arith)) (λ e. rw e (omega arith)) (λ e. let g = parse-room ends n t e in rw e (omega arith))
-
   -- they have at most 34 bytes each
   bytes-short : h .lines + p .made + stops (p .verdict) ≤ linesLimit → length bytes ≤ n * 34
   bytes-short l =
       let c = answers-counted next answered (h .machine) (callsRead p) (eqb (p .verdict) departing) in
       let k = parse-calls ends n t in
-      let g = answers-few in
+      let g = made-few ends n t in
       let s = printed-short (h .lines + 1) (parsedAnswers (h .machine) p) answers-short (omega arith) in
       omega arith
 

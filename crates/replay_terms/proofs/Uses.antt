@@ -16,7 +16,7 @@ use Rattle.replay.specs.Replay.{lineAnswers, prints, replayFrom}
 use Rattle.replay.specs.Parts.{Held, begunLine, waitingBytes, kept, Parted, putOut, linesAtMost, replayed, startReplay}
 use Rattle.replay.proofs.Keeping.{kept-means}
 use Rattle.replay_terms.specs.Uses.{Use, endsWith, used, wrote, fed, toPrint, PartsAgree, NothingHeld, AllPrinted, StartBegins}
-use Rattle.replay_terms.proofs.Printing.{restOf, put-printed}
+use Rattle.replay_terms.proofs.Printing.{restOf, to-print, put-printed}
 use Rattle.replay_terms.proofs.OnePart.{
   some-lines,
   part-refused,
@@ -26,11 +26,6 @@ use Rattle.replay_terms.proofs.OnePart.{
   none-waiting,
   replayed-printed,
 }
-
--- what is still to be printed, by what waits and the rest
-pub to-print : (h : Held) (left : List ℕ) → toPrint h left ≡ waitingBytes h ++ restOf h left
-unfolding toPrint
-to-print h left = refl
 
 -- one use of a part
 module _ (h : Held) (left : List ℕ) (u : Use) where
