@@ -15,7 +15,8 @@ loop-holds c = looking-start (now (c .args .text)) (c .args .from) (search needs
 
 returns : tie.Need-returns Inv-loop μ-loop
 returns c = let at-loop = c .before .before in
-    let l = at-loop .loop in let a = at-loop .before .args in
+    let l = at-loop .loop in
+    let a = at-loop .before .args in
     looking-end (now (a .text)) (a .from) (l .i) (l .left) (l .inv) (search needs) (c .if1 .taken)
 
 shared-slice-read-if2 : tie.Need-shared-slice-read-if2 Inv-loop μ-loop
@@ -23,7 +24,8 @@ shared-slice-read-if2 c = search needs
 
 returns-2 : tie.Need-returns-2 Inv-loop μ-loop
 returns-2 c = let at-loop = c .before .before .before .before in
-    let l = at-loop .loop in let a = at-loop .before .args in
+    let l = at-loop .loop in
+    let a = at-loop .before .args in
     looking-feed (now (a .text)) (a .from) (l .i) (l .left) (l .inv) (search needs) (search needs) (c .if2 .taken)
 
 add-i : tie.Need-add-i Inv-loop μ-loop
@@ -37,11 +39,13 @@ loop-less c = search needs
 
 loop-again : tie.Need-loop-again Inv-loop μ-loop
 loop-again c = let at-loop = c .before .before .before .before in
-    let l = at-loop .loop in let a = at-loop .before .args in
+    let l = at-loop .loop in
+    let a = at-loop .before .args in
     looking-on (now (a .text)) (a .from) (l .i) (l .left) (l .inv) (search needs) (search needs) (c .if2 .left)
 
 returns-3 : tie.Need-returns-3 Inv-loop μ-loop
-returns-3 c = let l = c .before .loop in let a = c .before .before .args in
+returns-3 c = let l = c .before .loop in
+    let a = c .before .before .args in
     looking-none (now (a .text)) (a .from) (l .i) (l .left) (l .inv) (c .loop-test .left)
 
 pub is-decided-spec : {M : Type 1} → statement M

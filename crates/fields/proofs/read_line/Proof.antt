@@ -17,25 +17,33 @@ abbrev μ-loop : tie.MeasureT-loop
 μ-loop text from calls₀ k at₀ i₀ calls at i = 5 - i
 
 loop-holds : tie.Need-loop-holds Inv-loop μ-loop
-loop-holds c = let a = c .before .before .args in scanning-start (now (a .text)) (now (a .calls)) (a .from) (a .k) (search needs)
+loop-holds c = let a = c .before .before .args in
+    scanning-start (now (a .text)) (now (a .calls)) (a .from) (a .k) (search needs)
 
 behind-requires : tie.Need-behind-requires Inv-loop μ-loop
 behind-requires c κs = search needs
 
 read-field-requires : tie.Need-read-field-requires Inv-loop μ-loop
-read-field-requires c κs = let at-loop = c .before .before in let l = at-loop .loop in let a = at-loop .before .before .before .args in
+read-field-requires c κs = let at-loop = c .before .before in
+    let l = at-loop .loop in
+    let a = at-loop .before .before .before .args in
     (l .inv .high, some-byte (l .i) (c .behind .result) (c .behind .ensures))
 
 same-length : tie.Need-same-length Inv-loop μ-loop
-same-length c = let at-loop = c .before .before .before .before in let l = at-loop .loop in let a = at-loop .before .before .before .args in
+same-length c = let at-loop = c .before .before .before .before in
+    let l = at-loop .loop in
+    let a = at-loop .before .before .before .args in
     l .inv .long
 
 returns : tie.Need-returns Inv-loop μ-loop
-returns c = let at-loop = c .before .before .before .before in let l = at-loop .loop in let a = at-loop .before .before .before .args in
+returns c = let after-behind = c .before .before in
+    let at-loop = c .before .before .before .before in
+    let l = at-loop .loop in
+    let a = at-loop .before .before .before .args in
     let f = c .before .read-field in
-    let e = f .ensures .0 ∙ ap (λ (b : ℕ). fieldAt b (drop (l .at) (now (a .text)))) (c .before .before .behind .ensures) in (
-      read-bad (now (a .text)) (now (a .calls)) (a .from) (a .k) (l .calls) (l .inv .front)
-          (scanning-bad (now (a .text)) (now (a .calls)) (a .from) (a .k) (l .calls) (l .at) (l .i) (l .inv) (search needs) (f .result) e (c .if1 .taken)),
+    let e = f .ensures .0 ∙ ap (λ (b : ℕ). fieldAt b (drop (l .at) (now (a .text)))) (after-behind .behind .ensures) in (
+      read-bad (now (a .text)) (now (a .calls)) (a .from) (a .k) (l .calls) (l .inv .front) (scanning-bad (now (a .text)) (now (a .calls)) (a .from)
+          (a .k) (l .calls) (l .at) (l .i) (l .inv) (search needs) (f .result) e (c .if1 .taken)),
       search needs,
     )
 
@@ -49,12 +57,18 @@ mul-calls-2 : tie.Need-mul-calls-2 Inv-loop μ-loop
 mul-calls-2 c = search needs
 
 slice-write-calls : tie.Need-slice-write-calls Inv-loop μ-loop
-slice-write-calls c = let at-loop = c .before .before .before .before in let l = at-loop .loop in let a = at-loop .before .before .before .args in
-    let long = l .inv .long in search needs
+slice-write-calls c = let at-loop = c .before .before .before .before in
+    let l = at-loop .loop in
+    let a = at-loop .before .before .before .args in
+    let long = l .inv .long in
+    search needs
 
 add-at : tie.Need-add-at Inv-loop μ-loop
-add-at c = let at-loop = c .before .before .before .before in let l = at-loop .loop in let a = at-loop .before .before .before .args in
-    let h = c .before .read-field .ensures .1 in search needs
+add-at c = let at-loop = c .before .before .before .before in
+    let l = at-loop .loop in
+    let a = at-loop .before .before .before .args in
+    let h = c .before .read-field .ensures .1 in
+    search needs
 
 add-i : tie.Need-add-i Inv-loop μ-loop
 add-i c = search needs
@@ -63,52 +77,82 @@ loop-less : tie.Need-loop-less Inv-loop μ-loop
 loop-less c = search needs
 
 loop-again : tie.Need-loop-again Inv-loop μ-loop
-loop-again c = let at-loop = c .before .before .before .before in let l = at-loop .loop in let a = at-loop .before .before .before .args in
+loop-again c = let after-behind = c .before .before in
+    let at-loop = c .before .before .before .before in
+    let l = at-loop .loop in
+    let a = at-loop .before .before .before .args in
     let f = c .before .read-field in
-    let e = f .ensures .0 ∙ ap (λ (b : ℕ). fieldAt b (drop (l .at) (now (a .text)))) (c .before .before .behind .ensures) in
-    scanning-on (now (a .text)) (now (a .calls)) (a .from) (a .k) (l .calls) (l .at) (l .i) (l .inv) (search needs) (f .result) e (c .if1 .left) (f .ensures .1)
+    let e = f .ensures .0 ∙ ap (λ (b : ℕ). fieldAt b (drop (l .at) (now (a .text)))) (after-behind .behind .ensures) in
+    scanning-on (now (a .text)) (now (a .calls)) (a .from) (a .k) (l .calls) (l .at) (l .i) (l .inv) (search needs) (f .result) e (c .if1 .left) (f
+    .ensures .1)
 
 sub-if2 : tie.Need-sub-if2 Inv-loop μ-loop
-sub-if2 c = let at-loop = c .before in let l = at-loop .loop in let a = at-loop .before .before .before .args in
-    let h = l .inv .behind-from in search needs
+sub-if2 c = let at-loop = c .before in
+    let l = at-loop .loop in
+    let a = at-loop .before .before .before .args in
+    let h = l .inv .behind-from in
+    search needs
 
 same-length-2 : tie.Need-same-length-2 Inv-loop μ-loop
-same-length-2 c = let at-loop = c .before .before in let l = at-loop .loop in let a = at-loop .before .before .before .args in
+same-length-2 c = let at-loop = c .before .before in
+    let l = at-loop .loop in
+    let a = at-loop .before .before .before .args in
     l .inv .long
 
 returns-2 : tie.Need-returns-2 Inv-loop μ-loop
-returns-2 c = let at-loop = c .before .before in let l = at-loop .loop in let a = at-loop .before .before .before .args in
-    (read-long (now (a .text)) (now (a .calls)) (a .from) (a .k) (l .calls) (l .at) (l .i) (l .inv) (c .before .loop-test .left) (c .if2 .taken), search needs)
+returns-2 c = let at-loop = c .before .before in
+    let l = at-loop .loop in
+    let a = at-loop .before .before .before .args in (
+      read-long (now (a .text)) (now (a .calls)) (a .from) (a .k) (l .calls) (l .at) (l .i) (l .inv) (c .before .loop-test .left) (c .if2 .taken),
+      search needs,
+    )
 
 is-call-at-requires : tie.Need-is-call-at-requires Inv-loop μ-loop
-is-call-at-requires c κs = let at-loop = c .before .before .before in let l = at-loop .loop in let a = at-loop .before .before .before .args in
-    let long = l .inv .long in search needs
+is-call-at-requires c κs = let at-loop = c .before .before .before in
+    let l = at-loop .loop in
+    let a = at-loop .before .before .before .args in
+    let long = l .inv .long in
+    search needs
 
 sub-result : tie.Need-sub-result Inv-loop μ-loop
-sub-result c = let at-loop = c .before .before .before .before .before in let l = at-loop .loop in let a = at-loop .before .before .before .args in
-    let h = l .inv .behind-from in search needs
+sub-result c = let at-loop = c .before .before .before .before .before in
+    let l = at-loop .loop in
+    let a = at-loop .before .before .before .args in
+    let h = l .inv .behind-from in
+    search needs
 
 same-length-3 : tie.Need-same-length-3 Inv-loop μ-loop
-same-length-3 c = let at-loop = c .before .before .before .before .before in let l = at-loop .loop in let a = at-loop .before .before .before .args in
+same-length-3 c = let at-loop = c .before .before .before .before .before in
+    let l = at-loop .loop in
+    let a = at-loop .before .before .before .args in
     l .inv .long
 
 returns-3 : tie.Need-returns-3 Inv-loop μ-loop
-returns-3 c = let at-loop = c .before .before .before .before .before in let l = at-loop .loop in let a = at-loop .before .before .before .args in (
-  read-whole (now (a .text)) (now (a .calls)) (a .from) (a .k) (l .calls) (l .at) (l .i) (l .inv) (c .before .before .before .before .loop-test .left) (search needs) (c .before .before .before .if2 .left)
-      (sym (c .before .is-call-at .ensures) ∙ c .if3 .taken),
-  search needs,
-)
+returns-3 c = let else2 = c .before .before .before in
+    let after-loop = else2 .before in
+    let at-loop = c .before .before .before .before .before in
+    let l = at-loop .loop in
+    let a = at-loop .before .before .before .args in (
+      read-whole (now (a .text)) (now (a .calls)) (a .from) (a .k) (l .calls) (l .at) (l .i) (l .inv) (after-loop .loop-test .left) (search needs)
+          (else2 .if2 .left) (sym (c .before .is-call-at .ensures) ∙ c .if3 .taken),
+      search needs,
+    )
 
 same-length-4 : tie.Need-same-length-4 Inv-loop μ-loop
-same-length-4 c = let at-loop = c .before .before .before .before .before in let l = at-loop .loop in let a = at-loop .before .before .before .args in
+same-length-4 c = let at-loop = c .before .before .before .before .before in
+    let l = at-loop .loop in
+    let a = at-loop .before .before .before .args in
     l .inv .long
 
 returns-4 : tie.Need-returns-4 Inv-loop μ-loop
-returns-4 c = let at-loop = c .before .before .before .before .before in let l = at-loop .loop in let a = at-loop .before .before .before .args in (
-  read-no-call (now (a .text)) (now (a .calls)) (a .from) (a .k) (l .calls) (l .at) (l .i) (l .inv) (c .before .before .before .before .loop-test .left) (search needs)
-      (sym (c .before .is-call-at .ensures) ∙ c .if3 .left),
-  search needs,
-)
+returns-4 c = let after-loop = c .before .before .before .before in
+    let at-loop = c .before .before .before .before .before in
+    let l = at-loop .loop in
+    let a = at-loop .before .before .before .args in (
+      read-no-call (now (a .text)) (now (a .calls)) (a .from) (a .k) (l .calls) (l .at) (l .i) (l .inv) (after-loop .loop-test .left) (search needs)
+          (sym (c .before .is-call-at .ensures) ∙ c .if3 .left),
+      search needs,
+    )
 
 pub read-line-spec : {M : Type 1} → statement M
 read-line-spec =

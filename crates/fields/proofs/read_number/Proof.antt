@@ -1,4 +1,15 @@
-use Rattle.fields.proofs.Digits.{Numbering, numbering-start, numbering-stop, numbering-on, numbering-above, is-digit, low-byte, high-byte, digits-stop, digits-end}
+use Rattle.fields.proofs.Digits.{
+  Numbering,
+  numbering-start,
+  numbering-stop,
+  numbering-on,
+  numbering-above,
+  is-digit,
+  low-byte,
+  high-byte,
+  digits-stop,
+  digits-end,
+}
 use Prim.Native.Nat.{_-_}
 use lib.ListN.{length}
 use native.Mathlib.Omega.{arith}
@@ -14,43 +25,51 @@ abbrev μ-loop : tie.MeasureT-loop
 μ-loop text from value₀ i₀ value i = length text - i
 
 loop-holds : tie.Need-loop-holds Inv-loop μ-loop
-loop-holds c = let a = c .before .args in numbering-start (now (a .text)) (a .from) (search needs)
+loop-holds c = let a = c .before .args in
+    numbering-start (now (a .text)) (a .from) (search needs)
 
 shared-slice-read-b : tie.Need-shared-slice-read-b Inv-loop μ-loop
 shared-slice-read-b c = search needs
 
 returns : tie.Need-returns Inv-loop μ-loop
 returns c = let at-loop = c .before .before .before in
-    let l = at-loop .loop in let a = at-loop .before .before .args in (
-      numbering-stop (now (a .text)) (a .from) (l .value) (l .i) (l .inv)
-          (digits-stop (now (a .text)) (l .i) (search needs) (low-byte _ (c .if1 .taken))),
+    let l = at-loop .loop in
+    let a = at-loop .before .before .args in (
+      numbering-stop (now (a .text)) (a .from) (l .value) (l .i) (l .inv) (digits-stop (now (a .text)) (l .i) (search needs) (low-byte _ (c .if1
+          .taken))),
       l .inv .high,
     )
 
 returns-2 : tie.Need-returns-2 Inv-loop μ-loop
 returns-2 c = let at-loop = c .before .before .before .before in
-    let l = at-loop .loop in let a = at-loop .before .before .args in (
-      numbering-stop (now (a .text)) (a .from) (l .value) (l .i) (l .inv)
-          (digits-stop (now (a .text)) (l .i) (search needs) (high-byte _ (c .if2 .taken))),
+    let l = at-loop .loop in
+    let a = at-loop .before .before .args in (
+      numbering-stop (now (a .text)) (a .from) (l .value) (l .i) (l .inv) (digits-stop (now (a .text)) (l .i) (search needs) (high-byte _ (c .if2
+          .taken))),
       l .inv .high,
     )
 
 mul-value : tie.Need-mul-value Inv-loop μ-loop
-mul-value c = let small = c .before .before .before .before .loop .inv .small in omega arith
+mul-value c = let small = c .before .before .before .before .loop .inv .small in
+    omega arith
 
 digit-requires : tie.Need-digit-requires Inv-loop μ-loop
 digit-requires c κs = search needs
 
 add-value : tie.Need-add-value Inv-loop μ-loop
-add-value c = let small = c .before .before .before .before .before .loop .inv .small in let e = c .digit .ensures in omega arith
+add-value c = let small = c .before .before .before .before .before .loop .inv .small in
+    let e = c .digit .ensures in
+    omega arith
 
 returns-3 : tie.Need-returns-3 Inv-loop μ-loop
 returns-3 c = let at-loop = c .before .before .before .before .before .before in
-    let l = at-loop .loop in let a = at-loop .before .before .args in
+    let l = at-loop .loop in
+    let a = at-loop .before .before .args in
     let digit = c .before in
-    let low = digit .before .before .if1 .left in let high = digit .before .if2 .left in (
-      numbering-above (now (a .text)) (a .from) (l .value) (l .i) (l .inv) (search needs) (is-digit _ low high) (digit .digit .result)
-          (digit .digit .ensures) (c .if3 .taken),
+    let low = digit .before .before .if1 .left in
+    let high = digit .before .if2 .left in (
+      numbering-above (now (a .text)) (a .from) (l .value) (l .i) (l .inv) (search needs) (is-digit _ low high) (digit .digit .result) (digit .digit
+          .ensures) (c .if3 .taken),
       l .inv .high,
     )
 
@@ -62,14 +81,17 @@ loop-less c = search needs
 
 loop-again : tie.Need-loop-again Inv-loop μ-loop
 loop-again c = let at-loop = c .before .before .before .before .before .before in
-    let l = at-loop .loop in let a = at-loop .before .before .args in
+    let l = at-loop .loop in
+    let a = at-loop .before .before .args in
     let digit = c .before in
-    let low = digit .before .before .if1 .left in let high = digit .before .if2 .left in
-    numbering-on (now (a .text)) (a .from) (l .value) (l .i) (l .inv) (search needs) (is-digit _ low high) (digit .digit .result)
-    (digit .digit .ensures) (c .if3 .left)
+    let low = digit .before .before .if1 .left in
+    let high = digit .before .if2 .left in
+    numbering-on (now (a .text)) (a .from) (l .value) (l .i) (l .inv) (search needs) (is-digit _ low high) (digit .digit .result) (digit .digit
+    .ensures) (c .if3 .left)
 
 returns-4 : tie.Need-returns-4 Inv-loop μ-loop
-returns-4 c = let l = c .before .loop in let a = c .before .before .before .args in
+returns-4 c = let l = c .before .loop in
+    let a = c .before .before .before .args in
     (numbering-stop (now (a .text)) (a .from) (l .value) (l .i) (l .inv) (digits-end (now (a .text)) (l .i) (c .loop-test .left)), l .inv .high)
 
 pub read-number-spec : {M : Type 1} → statement M

@@ -23,7 +23,8 @@ shared-slice-read-out : tie.Need-shared-slice-read-out Inv-loop μ-loop
 shared-slice-read-out c = search needs
 
 slice-write-out : tie.Need-slice-write-out Inv-loop μ-loop
-slice-write-out c = let long = c .before .before .loop .inv .2 in search needs
+slice-write-out c = let long = c .before .before .loop .inv .2 in
+    search needs
 
 add-i : tie.Need-add-i Inv-loop μ-loop
 add-i c = search needs
@@ -32,16 +33,20 @@ loop-less : tie.Need-loop-less Inv-loop μ-loop
 loop-less c = search needs
 
 loop-again : tie.Need-loop-again Inv-loop μ-loop
-loop-again c = let l = c .before .before .loop in let a = c .before .before .before .args in
-    let e = ap (λ (x : List ℕ). set x (l .i) (getD (now (a .bytes)) (l .i) 0)) (l .inv .1) ∙ front-on (now (a .bytes)) (now (a .out)) (l .i) (search needs) (search needs) in
+loop-again c = let l = c .before .before .loop in
+    let a = c .before .before .before .args in
+    let e = ap (λ (x : List ℕ). set x (l .i) (getD (now (a .bytes)) (l .i) 0)) (l .inv .1) ∙ front-on (now (a .bytes)) (now (a .out)) (l .i) (search
+    needs) (search needs) in
     (search needs, e, length-set (l .out) (l .i) _ ∙ l .inv .2)
 
 same-length : tie.Need-same-length Inv-loop μ-loop
 same-length c = c .before .loop .inv .2
 
 returns : tie.Need-returns Inv-loop μ-loop
-returns c = let l = c .before .loop in let a = c .before .before .args in
-    let low = l .inv .0 in let e : l .i ≡ a .n = omega (arith, c .loop-test .left) in
+returns c = let l = c .before .loop in
+    let a = c .before .before .args in
+    let low = l .inv .0 in
+    let e : l .i ≡ a .n = omega (arith, c .loop-test .left) in
     l .inv .1 ∙ ap (λ (k : ℕ). take k (now (a .bytes)) ++ drop k (now (a .out))) e
 
 pub copy-spec : {M : Type 1} → statement M

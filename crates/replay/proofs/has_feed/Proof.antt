@@ -22,7 +22,8 @@ shared-slice-read-if1 : tie.Need-shared-slice-read-if1 Inv-loop μ-loop
 shared-slice-read-if1 c = search needs
 
 returns : tie.Need-returns Inv-loop μ-loop
-returns c = let l = c .before .before .before .loop in let a = c .before .before .before .before .args in
+returns c = let l = c .before .before .before .loop in
+    let a = c .before .before .before .before .args in
     sym (feed-here (now (a .bytes)) (a .n) (l .i) (search needs) (search needs) (c .if1 .taken)) ∙ l .inv .1
 
 add-i : tie.Need-add-i Inv-loop μ-loop
@@ -32,11 +33,13 @@ loop-less : tie.Need-loop-less Inv-loop μ-loop
 loop-less c = search needs
 
 loop-again : tie.Need-loop-again Inv-loop μ-loop
-loop-again c = let l = c .before .before .before .loop in let a = c .before .before .before .before .args in
+loop-again c = let l = c .before .before .before .loop in
+    let a = c .before .before .before .before .args in
     (search needs, sym (feed-later (now (a .bytes)) (a .n) (l .i) (search needs) (search needs) (c .if1 .left)) ∙ l .inv .1)
 
 returns-2 : tie.Need-returns-2 Inv-loop μ-loop
-returns-2 c = let l = c .before .loop in let a = c .before .before .args in
+returns-2 c = let l = c .before .loop in
+    let a = c .before .before .args in
     sym (feed-none (now (a .bytes)) (a .n) (l .i) (c .loop-test .left)) ∙ l .inv .1
 
 pub has-feed-spec : {M : Type 1} → statement M

@@ -6,13 +6,16 @@ use Rattle.replay.proofs.is_kept.Statement.{statement}
 use Rattle.replay.proofs.is_kept.Tie as tie
 
 returns : tie.Need-returns
-returns c = let a = c .before .args in kept-no-lines (a .lines) (a .held) (a .waiting) (a .t4) (c .if1 .taken)
+returns c = let a = c .before .args in
+    kept-no-lines (a .lines) (a .held) (a .waiting) (a .t4) (c .if1 .taken)
 
 returns-2 : tie.Need-returns-2
-returns-2 c = let a = c .before .before .args in kept-no-held (a .lines) (a .held) (a .waiting) (a .t4) (c .if2 .taken)
+returns-2 c = let a = c .before .before .args in
+    kept-no-held (a .lines) (a .held) (a .waiting) (a .t4) (c .if2 .taken)
 
 returns-3 : tie.Need-returns-3
-returns-3 c = let a = c .before .before .before .args in kept-no-waiting (a .lines) (a .held) (a .waiting) (a .t4) (c .if3 .taken)
+returns-3 c = let a = c .before .before .before .args in
+    kept-no-waiting (a .lines) (a .held) (a .waiting) (a .t4) (c .if3 .taken)
 
 slice-aggregate-has-feed : tie.Need-slice-aggregate-has-feed
 slice-aggregate-has-feed c = search needs
@@ -21,10 +24,16 @@ has-feed-requires : tie.Need-has-feed-requires
 has-feed-requires c κs = search needs
 
 returns-4 : tie.Need-returns-4
-returns-4 c = let a = c .before .before .before .before .before .before .args in kept-no-feed (a .lines) (a .held) (a .waiting) (a .t4) (sym (c .before .has-feed .ensures) ∙ c .if4 .taken)
+returns-4 c = let a = c .before .before .before .before .before .before .args in
+    kept-no-feed (a .lines) (a .held) (a .waiting) (a .t4) (sym (c .before .has-feed .ensures) ∙ c .if4 .taken)
 
 returns-5 : tie.Need-returns-5
-returns-5 c = let a = c .before .before .before .before .before .before .args in kept-all (a .lines) (a .held) (a .waiting) (a .t4) (c .before .before .before .before .before .if1 .left) (c .before .before .before .before .if2 .left) (c .before .before .before .if3 .left) (sym (c .before .has-feed .ensures) ∙ c .if4 .left)
+returns-5 c = let else3 = c .before .before .before in
+    let else2 = else3 .before in
+    let else1 = else2 .before in
+    let a = c .before .before .before .before .before .before .args in
+    kept-all (a .lines) (a .held) (a .waiting) (a .t4) (else1 .if1 .left) (else2 .if2 .left) (else3 .if3 .left) (sym (c .before .has-feed .ensures) ∙
+    c .if4 .left)
 
 pub is-kept-spec : {M : Type 1} → statement M
 is-kept-spec =

@@ -22,10 +22,12 @@ same-length : tie.Need-same-length
 same-length c = search needs
 
 returns : tie.Need-returns
-returns c = let start = c .before .before .before .before .before .before .before .before in let a = start .args in
-    let cp = c .before .before .before .copy in let le = c .before .before .before .before .before .least in
-    λ memory store. put-out-is (heldOf memory store (a .replay)) (now (a .bytes)) (now (a .out)) _ _ (a .n) (le .result) (a .taken) (search needs)
-    (le .ensures) (cp .ensures) (c .padded .ensures)
+returns c = let start = c .before .before .before .before .before .before .before .before in
+    let a = start .args in
+    let cp = c .before .before .before .copy in
+    let le = c .before .before .before .before .before .least in
+    λ memory store. put-out-is (heldOf memory store (a .replay)) (now (a .bytes)) (now (a .out)) _ _ (a .n) (le .result) (a .taken) (search needs) (le
+    .ensures) (cp .ensures) (c .padded .ensures)
 
 pub put-out-spec : {M : Type 1} → statement M
 put-out-spec =

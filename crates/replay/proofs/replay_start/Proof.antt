@@ -10,7 +10,8 @@ start-requires : tie.Need-start-requires
 start-requires c κs = search needs
 
 returns : tie.Need-returns
-returns c = let a = c .before .before .before .before .before .args in let s = c .before .before .start in
+returns c = let a = c .before .before .before .before .before .args in
+    let s = c .before .before .start in
     start-is (now (a .memory)) (now (a .store)) (startedOf (now (a .memory)) (now (a .store)) (s .result)) (s .ensures)
 
 pub replay-start-spec : {M : Type 1} → statement M

@@ -5,7 +5,8 @@ use Rattle.replay_main.proofs.main.Statement.{statement}
 use Rattle.replay_main.proofs.main.Tie as tie
 
 abbrev Inv-loop : tie.InvT-loop
-Inv-loop memory₀ store₀ block₀ out₀ replay₀ turns₀ memory store block out replay turns = (length memory ≡ 65536) × (length store ≡ 16384) × (length block ≡ 65536) × (length out ≡ 65536)
+Inv-loop memory₀ store₀ block₀ out₀ replay₀ turns₀ memory store block out replay turns = (length memory ≡ 65536) × (length store ≡ 16384) × (length
+    block ≡ 65536) × (length out ≡ 65536)
 
 abbrev μ-loop : tie.MeasureT-loop
 μ-loop memory₀ store₀ block₀ out₀ replay₀ turns₀ memory store block out replay turns = turns

@@ -23,21 +23,31 @@ replay-part-requires : tie.Need-replay-part-requires
 replay-part-requires c κs = search needs
 
 slice-reshare-prefix-write-lines : tie.Need-slice-reshare-prefix-write-lines
-slice-reshare-prefix-write-lines c = let start = c .before .before .before .before .before .before .before .before .before .before .before .before .before .before .before .before in let a = start .args in let p = c .before .before .before .before .before .before .before .replay-part in
+slice-reshare-prefix-write-lines c = let start = c .before .before .before .before .before .before .before .before .before .before .before .before
+    .before .before .before .before in
+    let a = start .args in
+    let p = c .before .before .before .before .before .before .before .replay-part in
     let b = left-bounded _ _ _ _ _ (p .ensures) in
     let taken : p .result .replay .taken ≤ length (take (length (now (a .block)) - a .at) (drop (a .at) (now (a .block)))) = b .taken-low in
     let written : p .result .replay .written ≤ length (now (a .out)) = b .written-low in
-    let n = length-drop (a .at) (now (a .block)) in let most = length-take (length (now (a .block)) - a .at) (drop (a .at) (now (a .block))) in
-    let low = start .pre in let same = p .kept .1 .1 .1 .1 .1 .0 in
+    let n = length-drop (a .at) (now (a .block)) in
+    let most = length-take (length (now (a .block)) - a .at) (drop (a .at) (now (a .block))) in
+    let low = start .pre in
+    let same = p .kept .1 .1 .1 .1 .1 .0 in
     omega arith
 
 slice-aggregate-write-lines : tie.Need-slice-aggregate-write-lines
-slice-aggregate-write-lines c = let start = c .before .before .before .before .before .before .before .before .before .before .before .before .before .before .before .before .before in let a = start .args in let p = c .before .before .before .before .before .before .before .before .replay-part in
+slice-aggregate-write-lines c = let start = c .before .before .before .before .before .before .before .before .before .before .before .before .before
+    .before .before .before .before in
+    let a = start .args in
+    let p = c .before .before .before .before .before .before .before .before .replay-part in
     let b = left-bounded _ _ _ _ _ (p .ensures) in
     let taken : p .result .replay .taken ≤ length (take (length (now (a .block)) - a .at) (drop (a .at) (now (a .block)))) = b .taken-low in
     let written : p .result .replay .written ≤ length (now (a .out)) = b .written-low in
-    let n = length-drop (a .at) (now (a .block)) in let most = length-take (length (now (a .block)) - a .at) (drop (a .at) (now (a .block))) in
-    let low = start .pre in let same = p .kept .1 .1 .1 .1 .1 .0 in
+    let n = length-drop (a .at) (now (a .block)) in
+    let most = length-take (length (now (a .block)) - a .at) (drop (a .at) (now (a .block))) in
+    let low = start .pre in
+    let same = p .kept .1 .1 .1 .1 .1 .0 in
     sym (length-take-le _ _ (omega arith))
 
 write-lines-requires : tie.Need-write-lines-requires
@@ -53,12 +63,17 @@ same-length-3 : tie.Need-same-length-3
 same-length-3 c = search needs
 
 returns : tie.Need-returns
-returns c = let start = c .before .before .before .before .before .before .before .before .before .before .before .before .before .before .before .before .before .before in let a = start .args in let p = c .before .before .before .before .before .before .before .before .before .replay-part in
+returns c = let start = c .before .before .before .before .before .before .before .before .before .before .before .before .before .before .before
+    .before .before .before in
+    let a = start .args in
+    let p = c .before .before .before .before .before .before .before .before .before .replay-part in
     let b = left-bounded _ _ _ _ _ (p .ensures) in
     let taken : p .result .replay .taken ≤ length (take (length (now (a .block)) - a .at) (drop (a .at) (now (a .block)))) = b .taken-low in
     let written : p .result .replay .written ≤ length (now (a .out)) = b .written-low in
-    let n = length-drop (a .at) (now (a .block)) in let most = length-take (length (now (a .block)) - a .at) (drop (a .at) (now (a .block))) in
-    let low = start .pre in let same = p .kept .1 .1 .1 .1 .1 .0 in
+    let n = length-drop (a .at) (now (a .block)) in
+    let most = length-take (length (now (a .block)) - a .at) (drop (a .at) (now (a .block))) in
+    let low = start .pre in
+    let same = p .kept .1 .1 .1 .1 .1 .0 in
     omega arith
 
 pub replay-from-spec : {M : Type 1} → statement M
