@@ -187,7 +187,8 @@ fn put_out(replay: Replay, bytes: &[u8], n: usize, out: &mut [u8], taken: usize)
 
 // What is held behind replayed lines of a text.
 fn settled(b: Batch, lines: u64, text: &[u8]) -> Replay
-    requires { ⌜ (b .end ≤ length (now text)) × (lines ≤ spec.linesLimit) × (b .made ≤ 1024) × (b .verdict ≡ 1 → length (now text) ≤ b .end + 63) ⌝ }
+    requires { ⌜ (b .end ≤ length (now text)) × (lines ≤ spec.linesLimit) × (b .made ≤ 1024)
+        × (b .verdict ≡ 1 → length (now text) ≤ b .end + 63) ⌝ }
     ensures { λ r. ⌜ ((memory store : List ℕ) → code.heldOf memory store r
         ≡ spec.settled (machineIn memory store (b .state) (b .cp15)) lines (b .made) (b .verdict) (drop (b .end) (now (text .entry)))) ⌝ }
 {
@@ -301,7 +302,7 @@ fn replay_many(
     let state = replay.state;
     let cp15 = replay.cp15;
     let lines = replay.lines;
-    let n = least(out.len() / 34, BATCH);
+    let n = least(out.len() / printed::WIDEST, BATCH);
     let b = replay_lines(state, cp15, memory, store, text, ends, lines, n, out);
     let mut after = settled(b, lines, text);
     after.taken = taken_by(b.verdict, b.end, text.len());
@@ -360,7 +361,7 @@ fn is_roomy(held: usize, room: usize) -> bool
     ensures { λ r. ⌜ r ≡ (eqb held 0 && leb 34 room) ⌝ }
 {
     if held == 0 {
-        return room >= 34;
+        return room >= printed::WIDEST;
     }
     false
 }
