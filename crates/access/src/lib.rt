@@ -51,6 +51,7 @@ fn passed(
             p,
         ),
         Kind::Store(v) => stores::store(memory, words, bytes, lines, store, s, a, v, p),
+        Kind::Swap(v) => swaps::swap(memory, words, bytes, lines, store, s, a, v, p),
     }
 }
 

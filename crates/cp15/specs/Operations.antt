@@ -5,10 +5,9 @@ use lib.Dec.{eqb}
 use Rattle.values.specs.declared.VirtualAddress.{VirtualAddress}
 use Rattle.values.specs.declared.Transfer.{Transfer}
 use Rattle.tlb.specs.Tlb.{flushed, dropped}
-use Rattle.buffer.specs.Buffer.{drained}
 use Rattle.cache.specs.Dcache.{cleaned, lineFlushed, allFlushed}
 use Rattle.values.specs.Counts.{sent}
-use Rattle.machine.specs.Machine.{Machine, withRegisters, withSide, withCache, withBacking, withEntries, withCounts, Stepped, steppedFrom, answersZero}
+use Rattle.machine.specs.Machine.{Machine, withRegisters, withSide, withCache, withEntries, withCounts, drainedAll, Stepped, steppedFrom, answersZero}
 use Rattle.values.specs.declared.Answer.the-variants as answer
 use Rattle.registers.specs.Pairs.{isPair}
 use Rattle.registers.specs.Registers.{readOf, writtenOf}
@@ -42,10 +41,6 @@ module _ (t : Transfer) where
 -- the halves that a clean sends out are counted
 abbrev pub cleanedLine : Machine → VirtualAddress → Machine
 cleanedLine m va = let s = cleaned (m .side) va in withCounts (withSide m (s .side)) (sent (m .counts) (s .halves))
-
--- the buffer drained
-abbrev pub drainedAll : Machine → Machine
-drainedAll m = withBacking m (drained (m .side .backing))
 
 -- the machine after the operation, of which the value written is the virtual address; "(0,5) does nothing"
 unfoldable pub operated : Machine → Transfer → VirtualAddress → Machine

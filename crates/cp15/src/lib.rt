@@ -4,7 +4,6 @@ ghost use mathlib.Core.Bool.{_||_};
 ghost use mathlib.Core.List.{List};
 ghost use Prim.Native.Nat.{ℕ, _<_};
 ghost use lib.ListN.{length};
-ghost use Rattle.buffer.specs.Ranges.{Fits};
 ghost use Rattle.cache.specs.Packing.{linesOf};
 ghost use Rattle.cache.specs.Dcache as dcache;
 ghost use Rattle.registers.specs.Pairs as pairs;
@@ -84,19 +83,6 @@ fn clean(
     }
 }
 
-// The buffer is drained.
-fn drain(memory: &mut [u8], words: &mut [u64], bytes: &mut [[u8; 16]; 8], s: Scalars) -> Scalars
-    requires { ⌜ Fits (now memory) (now words) (now bytes) (s .used) ⌝ }
-    ensures { λ r.
-        ⌜ ((lines pointers store : List ℕ)
-        → Turns (lists (now (memory .entry)) (now (words .entry)) (now (bytes .entry)) lines pointers store) s
-        (lists (now (memory .exit)) (now (words .exit)) (now (bytes .exit)) lines pointers store) r spec.drainedAll) ⌝ }
-{
-    let b = *bytes;
-    *bytes = buffer::drain(memory, words, b, s.used);
-    machine::with_used(s, 0)
-}
-
 // The operations of register 7.
 fn operate_seven(
     memory: &mut [u8],
@@ -127,7 +113,7 @@ fn operate_seven(
         return clean(memory, words, bytes, lines, store, s, va);
     }
     if registers::is_pair(t, 4, 10) {
-        return drain(memory, words, bytes, s);
+        return machine::drain(memory, words, bytes, s);
     }
     s
 }

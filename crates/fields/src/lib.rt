@@ -10,6 +10,9 @@ ghost use Rattle.fields.specs.Code as code;
 // The greatest number of a field.
 const GREATEST: u64 = 0xFFFFFFFF;
 
+// The greatest number that a text has for a call.
+const LAST_CALL: u32 = 4;
+
 // The bytes of the longest line, with its line feed.
 pub const LONGEST: usize = 64;
 
@@ -120,6 +123,9 @@ fn read_line(text: &[u8], from: usize, calls: &mut [u32], k: usize) -> usize
         i += 1;
     }
     if at - from > LONGEST {
+        return 0;
+    }
+    if calls[k * 5] > LAST_CALL {
         return 0;
     }
     if trace::is_call_at(calls, k) {

@@ -12,7 +12,7 @@ use Rattle.values.specs.declared.Entry.{Entry}
 use Rattle.values.specs.declared.Answer.{Answer}
 use Rattle.values.specs.declared.Answer.the-variants as answer
 use Rattle.bus.specs.Physical.{Physical, physical}
-use Rattle.buffer.specs.Buffer.{Backing, backingFrom, emptyBuffer}
+use Rattle.buffer.specs.Buffer.{Backing, backingFrom, emptyBuffer, drained}
 use Rattle.cache.specs.Dcache.{Dcache, Side, dcacheFrom, sideFrom}
 
 -- State, record, memory and cache store together. The state is the memory's length at the start, the TLB's entries, the Dcache's lines and
@@ -61,6 +61,10 @@ module _ (m : Machine) where
 
   abbrev pub withCounts : Counts → Machine
   withCounts c = machineFrom (m .cp15) (m .entries) (m .side) c (m .size)
+
+  -- "drains the buffer"
+  abbrev pub drainedAll : Machine
+  drainedAll = withBacking (drained (m .side .backing))
 
 -- ---- the start
 

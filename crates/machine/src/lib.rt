@@ -3,6 +3,9 @@ ghost use mathlib.Core.Path.{_≡_};
 ghost use Prim.Native.Nat.{_<_, _≤_, _+_};
 ghost use Rattle.values.specs.Counts as counts;
 ghost use Rattle.values.specs.Counts.{countLimit};
+ghost use Rattle.buffer.specs.Buffer.{drained};
+ghost use Rattle.buffer.specs.Packing.{backingOf};
+ghost use Rattle.buffer.specs.Ranges.{Fits, Left};
 ghost use Rattle.machine.specs.Scalars as spec;
 use values::Answer;
 use values::Count;
@@ -112,4 +115,16 @@ pub fn with_pointer(s: Scalars, pointer: u32) -> Scalars
     let mut out = s;
     out.cp15.pointer = pointer;
     out
+}
+
+// The buffer is drained.
+pub fn drain(memory: &mut [u8], words: &mut [u64], bytes: &mut [[u8; 16]; 8], s: Scalars) -> Scalars
+    requires { ⌜ Fits (now memory) (now words) (now bytes) (s .used) ⌝ }
+    ensures { λ r.
+        ⌜ (r ≡ spec.withUsed s 0) × Left (now (memory .exit)) (now (words .exit)) (now (bytes .exit)) 0
+        (drained (backingOf (now (memory .entry)) (now (words .entry)) (now (bytes .entry)) (s .used))) ⌝ }
+{
+    let b = *bytes;
+    *bytes = buffer::drain(memory, words, b, s.used);
+    with_used(s, 0)
 }

@@ -7,7 +7,7 @@ use Rattle.values.specs.Registers.{zeroRegisters}
 use Rattle.values.specs.declared.VirtualAddress.{VirtualAddress}
 use Rattle.values.specs.declared.Registers.{Registers}
 use Rattle.values.specs.declared.Kind.{Kind}
-use Rattle.values.specs.declared.Kind.the-variants.{Load, SignedLoad, Store}
+use Rattle.values.specs.declared.Kind.the-variants.{Load, SignedLoad, Store, Swap}
 use Rattle.values.specs.declared.Access.{Access}
 use Rattle.values.specs.declared.Transfer.{Transfer}
 use Rattle.values.specs.declared.Fault.{Fault}
@@ -90,11 +90,18 @@ plainStore p a v l =
     (cond (buffers (p .registers) l) (plainStepped p (answer.Value 0)) (plainFaulted p (otherStatus l) (l .domain) (a .address)))
     (plainStepped (plainWritten p a v l) (answer.Value 0))
 
+-- Document 02, Two: "in a run the plain machine loads and stores together, with these codes", 8 and 10.
+unfoldable pub plainSwap : Plain → Access → ℕ → Place → PlainStepped
+plainSwap p a v l =
+    cond (aborts (plainPhysical p) (l .address)) (plainFaulted p (otherStatus l) (l .domain) (a .address))
+    (plainStepped (plainStore p a v l .plain) (plainLoad p a l .answer))
+
 -- an access whose translation and rights pass, by its kind
 abbrev pub plainPassed : Plain → Access → Place → Kind → PlainStepped
 plainPassed p a l Load = plainLoad p a l
 plainPassed p a l SignedLoad = plainLoad p a l
 plainPassed p a l (Store v) = plainStore p a v l
+plainPassed p a l (Swap v) = plainSwap p a v l
 
 unfoldable pub plainAt : Plain → Access → Checked → PlainStepped
 plainAt p a (Denied s d) = plainFaulted p s d (a .address)

@@ -129,6 +129,23 @@ fn store(memory: &mut [u8], s: PlainState, a: Access, v: u32, p: Place) -> Outco
     }
 }
 
+// A swap that passed, inside memory or outside.
+fn swap(memory: &mut [u8], s: PlainState, a: Access, v: u32, p: Place) -> Outcome
+    requires { ⌜ Kept (s .registers) × Placed a p ⌝ }
+    ensures { λ r. ⌜ Steps (steppedOf (now (memory .exit)) r) (spec.plainSwap (plainOf (now (memory .entry)) s) a v p) ⌝ }
+{
+    if bus::aborts(memory, p.address) {
+        let address = a.address;
+        return faulted(s, translation::other_status(p), p.domain, address);
+    }
+    let loaded = load(memory, s, a, p);
+    let stored = store(memory, s, a, v, p);
+    Outcome {
+        state: stored.state,
+        answer: loaded.answer,
+    }
+}
+
 // An access that passed, by its kind.
 fn passed(memory: &mut [u8], s: PlainState, a: Access, p: Place) -> Outcome
     requires { ⌜ Kept (s .registers) × Placed a p ⌝ }
@@ -138,6 +155,7 @@ fn passed(memory: &mut [u8], s: PlainState, a: Access, p: Place) -> Outcome
     match k {
         Kind::Load | Kind::SignedLoad => load(memory, s, a, p),
         Kind::Store(v) => store(memory, s, a, v, p),
+        Kind::Swap(v) => swap(memory, s, a, v, p),
     }
 }
 

@@ -9,7 +9,7 @@ use Rattle.values.specs.Rows.{Row, firstMet}
 use Rattle.values.specs.Control.{listed}
 use Rattle.values.specs.Counts.{countLimit}
 use Rattle.values.specs.declared.Kind.{Kind}
-use Rattle.values.specs.declared.Kind.the-variants.{Load, SignedLoad, Store}
+use Rattle.values.specs.declared.Kind.the-variants.{Load, SignedLoad, Store, Swap}
 use Rattle.values.specs.declared.Access.{Access}
 use Rattle.values.specs.declared.Transfer.{Transfer}
 use Rattle.values.specs.declared.Call as call
@@ -52,15 +52,22 @@ row4 start length = refuses 4 (not (eqb start length))
 abbrev pub row5 : ℕ → Row ℕ
 row5 calls = refuses 5 (eqb calls countLimit)
 
--- "6. The access width is not 1, 2 or 4 bytes."
+-- "6. The access width is not 1, 2 or 4 bytes." Document 02, Two: a swap's "width of 2 is refused as 6".
+abbrev pub widthFits : ℕ → Kind → Bool
+widthFits width Load = isWidth width
+widthFits width SignedLoad = isWidth width
+widthFits width (Store v) = isWidth width
+widthFits width (Swap v) = isWidth width && not (eqb width 2)
+
 abbrev pub row6 : Access → Row ℕ
-row6 a = refuses 6 (not (isWidth (a .width)))
+row6 a = refuses 6 (not (widthFits (a .width) (a .kind)))
 
 -- "7. The value to store does not fit the width."
 abbrev pub valueFits : ℕ → Kind → Bool
 valueFits width Load = true
 valueFits width SignedLoad = true
 valueFits width (Store v) = fitsWidth width v
+valueFits width (Swap v) = fitsWidth width v
 
 abbrev pub row7 : Access → Row ℕ
 row7 a = refuses 7 (not (valueFits (a .width) (a .kind)))

@@ -33,6 +33,19 @@ pub fn lent_refusal(memory: usize, store: usize) -> u32
     1
 }
 
+// Whether a width of 1, 2 or 4 is one of the kind: a swap has none of 2 (refusal 6).
+fn width_fits(width: u32, k: Kind) -> bool
+    requires { ⌜ isWidth width ≡ true ⌝ }
+    ensures { λ r. ⌜ r ≡ spec.widthFits width k ⌝ }
+{
+    match k {
+        Kind::Load => true,
+        Kind::SignedLoad => true,
+        Kind::Store(v) => true,
+        Kind::Swap(v) => width != 2,
+    }
+}
+
 // Whether the value to store, if there is one, fits a width of 1, 2 or 4 (refusal 7).
 fn value_fits(width: u32, k: Kind) -> bool
     requires { ⌜ isWidth width ≡ true ⌝ }
@@ -42,6 +55,7 @@ fn value_fits(width: u32, k: Kind) -> bool
         Kind::Load => true,
         Kind::SignedLoad => true,
         Kind::Store(v) => words::fits_width(width, v),
+        Kind::Swap(v) => words::fits_width(width, v),
     }
 }
 
@@ -51,7 +65,11 @@ pub fn access_refusal(a: Access) -> u32
 {
     if words::is_width(a.width) {
         let k = a.kind;
-        if value_fits(a.width, k) { 0 } else { 7 }
+        if width_fits(a.width, k) {
+            if value_fits(a.width, k) { 0 } else { 7 }
+        } else {
+            6
+        }
     } else {
         6
     }

@@ -4,7 +4,7 @@ use mathlib.Core.Bool.{cond}
 use lib.Dec.{eqb}
 use Rattle.values.specs.Counts.{counted}
 use Rattle.values.specs.declared.Kind.{Kind}
-use Rattle.values.specs.declared.Kind.the-variants.{Load, SignedLoad, Store}
+use Rattle.values.specs.declared.Kind.the-variants.{Load, SignedLoad, Store, Swap}
 use Rattle.values.specs.declared.Call.{Call}
 use Rattle.values.specs.declared.Call.the-variants.{Read, Write}
 use Rattle.values.specs.declared.Call.the-variants as calls
@@ -36,6 +36,7 @@ abbrev pub Carries32 : Kind → Type 0
 Carries32 Load = Unit {0}
 Carries32 SignedLoad = Unit {0}
 Carries32 (Store v) = Is32 v
+Carries32 (Swap v) = Is32 v
 
 abbrev pub Numbers : Call → Type 0
 Numbers (calls.Access a) = Is32 (a .address .0) × Carries32 (a .kind)

@@ -30,7 +30,7 @@ fn stored(s: Scalars) -> Outcome
 }
 
 // A store into line i.
-fn store_hit(
+pub fn store_hit(
     lines: &mut [u64],
     store: &mut [u8],
     s: Scalars,
@@ -51,7 +51,7 @@ fn store_hit(
 }
 
 // A store that drains the buffer and goes to memory.
-fn store_direct(
+pub fn store_direct(
     memory: &mut [u8],
     words: &mut [u64],
     bytes: &mut [[u8; 16]; 8],
@@ -66,10 +66,9 @@ fn store_direct(
         (λ (m : Machine). spec.storeDirect m a v p) ⌝ }
 {
     let pa = p.address;
-    let b = *bytes;
-    *bytes = buffer::drain(memory, words, b, s.used);
+    let drained = machine::drain(memory, words, bytes, s);
     words::store(memory, pa.0 as usize, a.width, v);
-    stored(machine::with_used(s, 0))
+    stored(drained)
 }
 
 // A store inside memory that is buffered.

@@ -8,7 +8,7 @@ use Rattle.values.specs.Addresses.{virtualLine, physicalLine, wordOf}
 use Rattle.values.specs.declared.VirtualAddress.{VirtualAddress}
 use Rattle.values.specs.declared.PhysicalAddress.{PhysicalAddress}
 use Rattle.values.specs.declared.Kind.{Kind}
-use Rattle.values.specs.declared.Kind.the-variants.{Load, SignedLoad, Store}
+use Rattle.values.specs.declared.Kind.the-variants.{Load, SignedLoad, Store, Swap}
 use Rattle.values.specs.declared.Transfer.{Transfer}
 use Rattle.values.specs.declared.Call.{Call}
 use Rattle.values.specs.declared.Call.the-variants.{Read, Write}
@@ -113,6 +113,7 @@ abbrev pub afterKind : Kind → History → Physical → VirtualAddress → Chec
 afterKind Load h memory va c = h
 afterKind SignedLoad h memory va c = h
 afterKind (Store v) h memory va c = afterStore h memory va c
+afterKind (Swap v) h memory va c = afterStore h memory va c
 
 abbrev pub afterLineClean : History → ℕ → History
 afterLineClean h v =

@@ -5,7 +5,7 @@ use mathlib.Core.Bool.{Bool, true, false, cond, not, _&&_, _||_}
 use mathlib.Core.Path.{_≡_}
 use mathlib.Core.List.{List, [], _∷_}
 use lib.Dec.{eqb}
-use Rattle.values.specs.Kinds.{isStore}
+use Rattle.values.specs.Kinds.{isStore, isSwap}
 use Rattle.values.specs.Rows.{Row, firstMet}
 use Rattle.values.specs.Control.{mmu, system, rom}
 use Rattle.values.specs.Empty.{emptyEntry}
@@ -103,6 +103,9 @@ module _ (m : Machine) (a : Access) where
   abbrev store : Bool
   store = isStore (a .kind)
 
+  abbrev swap : Bool
+  swap = isSwap (a .kind)
+
   abbrev mapping : Translation
   mapping = translation (m .entries) regs memory (cleared a)
 
@@ -128,12 +131,13 @@ module _ (m : Machine) (a : Access) where
   abbrev lost : Bool
   lost = isNothing (find (m .side .cache .lines) (cleared a)) && aborts memory (place .address)
 
-  -- "on line fill": a load that fills; otherwise a load that does not, or a store that is not buffered
+  -- "on line fill": a load that fills; otherwise a load that does not, a store that is not buffered, or a swap: "codes 8 and 10 apply, also on a
+  -- buffered page"
   abbrev onFill : Bool
   onFill = lost && (not store && fills regs place)
 
   abbrev other : Bool
-  other = lost && cond store (not (buffers regs place)) (not (fills regs place))
+  other = lost && (swap || cond store (not (buffers regs place)) (not (fills regs place)))
 
   -- "Status, in order: alignment 1; walk outside memory 12 (level 1), 14 (level 2); translation 5, 7; domain 9, 11; permission 13, 15;
   -- outside memory on line fill 4, 6, otherwise 8, 10."

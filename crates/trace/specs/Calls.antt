@@ -1,12 +1,12 @@
--- A list of calls as numbers, five a call: the call (0 load, 1 signed load, 2 store, 3 CP15 read, 4 CP15 write), privileged (1 or 0), the width or
--- the register number, the address or opcode 2 × 16 + CRm, the value.
+-- A list of calls as numbers, five a call: the call (0 load, 1 signed load, 2 store, 3 CP15 read, 4 CP15 write; 5 swap, of document 02, Two),
+-- privileged (1 or 0), the width or the register number, the address or opcode 2 × 16 + CRm, the value.
 use Prim.Native.Nat.{ℕ, _+_, _*_, _/_, _%_}
 use mathlib.Core.Bool.{Bool, cond, _&&_}
 use mathlib.Core.List.{List}
 use lib.Dec.{eqb, leb}
 use lib.ListN.{getD}
 use Rattle.values.specs.declared.Kind.{Kind}
-use Rattle.values.specs.declared.Kind.the-variants.{Load, SignedLoad, Store}
+use Rattle.values.specs.declared.Kind.the-variants.{Load, SignedLoad, Store, Swap}
 use Rattle.values.specs.declared.Access.{Access}
 use Rattle.values.specs.declared.Transfer.{Transfer}
 use Rattle.values.specs.declared.Call.{Call}
@@ -28,11 +28,12 @@ callOf kind privileged n a v =
     (cond (eqb kind 1) (calls.Access (accessOf SignedLoad privileged n a))
     (cond (eqb kind 2) (calls.Access (accessOf (Store v) privileged n a))
     (cond (eqb kind 3) (Read (transferOf privileged n a))
-    (Write (transferOf privileged n a) v))))
+    (cond (eqb kind 4) (Write (transferOf privileged n a) v)
+    (calls.Access (accessOf (Swap v) privileged n a))))))
 
 -- the five numbers are a call
 abbrev pub isCall : ℕ → ℕ → Bool
-isCall kind privileged = leb kind 4 && leb privileged 1
+isCall kind privileged = leb kind 5 && leb privileged 1
 
 -- call i of a list, and whether it is one
 abbrev pub callAt : List ℕ → ℕ → Call

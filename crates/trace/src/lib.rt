@@ -55,7 +55,10 @@ pub fn call_of(kind: u32, privileged: u32, n: u32, a: u32, v: u32) -> Call
     if kind == 3 {
         return Call::Read(transfer_of(privileged, n, a));
     }
-    Call::Write(transfer_of(privileged, n, a), v)
+    if kind == 4 {
+        return Call::Write(transfer_of(privileged, n, a), v);
+    }
+    Call::Access(access_of(Kind::Swap(v), privileged, n, a))
 }
 
 // Call i of a list of five numbers a call.
@@ -79,7 +82,7 @@ pub fn is_call_at(list: &[u32], i: usize) -> bool
     ensures { λ r. ⌜ r ≡ spec.isCallAt (now (list .entry)) i ⌝ }
 {
     let at = i * 5;
-    if list[at] <= 4 {
+    if list[at] <= 5 {
         return list[at + 1] <= 1;
     }
     false

@@ -286,5 +286,6 @@ pub fn load_answer(k: Kind, width: u32, value: u32) -> Answer
         Kind::Load => Answer::Value(value),
         Kind::SignedLoad => Answer::Signed(words::signed(width, value)),
         Kind::Store(x) => Answer::Value(value),
+        Kind::Swap(x) => Answer::Value(value),
     }
 }

@@ -78,11 +78,12 @@ pub struct Counts {
     pub halves: Count,
 }
 
-// What an access does; a store carries its value.
+// What an access does; a store and a swap carry the value that they store.
 pub enum Kind {
     Load,
     SignedLoad,
     Store(u32),
+    Swap(u32),
 }
 
 // A data access: what it does, its mode, its width in bytes, its virtual address.
@@ -178,6 +179,7 @@ pub fn is_store(k: Kind) -> bool
         Kind::Load => false,
         Kind::SignedLoad => false,
         Kind::Store(v) => true,
+        Kind::Swap(v) => true,
     }
 }
 

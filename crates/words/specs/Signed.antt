@@ -4,7 +4,7 @@ use mathlib.Core.Bool.{cond}
 use lib.Dec.{ltb}
 use lib.IntN.{ℤ, pos, negsuc}
 use Rattle.values.specs.declared.Kind.{Kind}
-use Rattle.values.specs.declared.Kind.the-variants.{Load, SignedLoad, Store}
+use Rattle.values.specs.declared.Kind.the-variants.{Load, SignedLoad, Store, Swap}
 use Rattle.values.specs.declared.Answer.{Answer}
 use Rattle.values.specs.declared.Answer.the-variants.{Value, Signed}
 
@@ -16,8 +16,9 @@ signedBy half x = cond (ltb x half) (pos x) (negsuc (half + half - 1 - x))
 abbrev pub signedOf : ℕ → ℕ → ℤ
 signedOf width x = signedBy (256 ^ width / 2) x
 
--- what an access of a kind answers that loads the number v
+-- what an access of a kind answers that loads the number v; a swap "answers the old value"
 abbrev pub loadAnswer : Kind → ℕ → ℕ → Answer
 loadAnswer Load width v = Value v
 loadAnswer SignedLoad width v = Signed (signedOf width v)
 loadAnswer (Store x) width v = Value v
+loadAnswer (Swap x) width v = Value v

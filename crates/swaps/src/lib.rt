@@ -1,0 +1,117 @@
+// Swaps whose alignment, translation and rights pass: in the Dcache, or in memory behind a drain.
+ghost use mathlib.Core.Path.{_≡_};
+ghost use mathlib.Core.Bool.{true, false};
+ghost use mathlib.Core.List.{List};
+ghost use Prim.Native.Nat.{ℕ, _<_};
+ghost use lib.ListN.{length};
+ghost use Rattle.values.specs.Counts.{countLimit};
+ghost use Rattle.words.specs.Words.{isWidth};
+ghost use Rattle.bus.specs.Physical.{physical, aborts};
+ghost use Rattle.machine.specs.Lists.{lists, machineOf, steppedOf, Leaves, LeavesBelow};
+ghost use Rattle.machine.specs.Machine.{Machine};
+ghost use Rattle.reach.specs.Code.{MissReady};
+ghost use Rattle.swaps.specs.Swaps as spec;
+use machine::Outcome;
+use machine::Scalars;
+use translation::Place;
+use values::Access;
+use values::Search;
+
+// A swap in line i.
+fn swap_hit(
+    lines: &mut [u64],
+    store: &mut [u8],
+    s: Scalars,
+    a: Access,
+    v: u32,
+    i: usize,
+) -> Outcome
+    requires { ⌜ (length (now lines) ≡ 512) × (length (now store) ≡ 16384) × (i < 512) × (isWidth (a .width) ≡ true)
+        × (s .counts .hits < countLimit) ⌝ }
+    ensures { λ r.
+        ⌜ ((memory words : List ℕ) (bytes : List (List ℕ)) (pointers entries : List ℕ) (size : ℕ)
+        → steppedOf (lists memory words bytes (now (lines .exit)) pointers (now (store .exit))) entries size r
+        ≡ spec.swapHit (machineOf (lists memory words bytes (now (lines .entry)) pointers (now (store .entry))) entries s size) a v i) ⌝ }
+{
+    let read = loads::load_hit(store, s, a, i);
+    let written = stores::store_hit(lines, store, s, a, v, i);
+    Outcome {
+        scalars: written.scalars,
+        answer: read.answer,
+    }
+}
+
+// A swap in memory, once the buffer is drained.
+fn swap_direct(
+    memory: &mut [u8],
+    words: &mut [u64],
+    bytes: &mut [[u8; 16]; 8],
+    s: Scalars,
+    a: Access,
+    v: u32,
+    p: Place,
+) -> Outcome
+    requires { ⌜ MissReady (now memory) (now words) (now bytes) (s .used) a p × (aborts (physical (now memory)) (p .address) ≡ false) ⌝ }
+    ensures { λ r.
+        ⌜ LeavesBelow (now (memory .entry)) (now (words .entry)) (now (bytes .entry)) s (now (memory .exit)) (now (words .exit)) (now (bytes .exit)) r
+        (λ (m : Machine). spec.swapDirect m a v p) ⌝ }
+{
+    let drained = machine::drain(memory, words, bytes, s);
+    let read = loads::load_uncached(memory, words, bytes, drained, a, p);
+    let left = read.scalars;
+    let written = stores::store_direct(memory, words, bytes, left, a, v, p);
+    Outcome {
+        scalars: written.scalars,
+        answer: read.answer,
+    }
+}
+
+// A swap that misses.
+fn swap_miss(
+    memory: &mut [u8],
+    words: &mut [u64],
+    bytes: &mut [[u8; 16]; 8],
+    s: Scalars,
+    a: Access,
+    v: u32,
+    p: Place,
+) -> Outcome
+    requires { ⌜ MissReady (now memory) (now words) (now bytes) (s .used) a p ⌝ }
+    ensures { λ r.
+        ⌜ LeavesBelow (now (memory .entry)) (now (words .entry)) (now (bytes .entry)) s (now (memory .exit)) (now (words .exit)) (now (bytes .exit)) r
+        (λ (m : Machine). spec.swapMiss m a v p) ⌝ }
+{
+    if bus::aborts(memory, p.address) {
+        let address = a.address;
+        return reach::faulted(s, translation::other_status(p), p.domain, address);
+    }
+    swap_direct(memory, words, bytes, s, a, v, p)
+}
+
+// A swap: the Dcache is searched, even when disabled; a miss allocates no line.
+pub fn swap(
+    memory: &mut [u8],
+    words: &mut [u64],
+    bytes: &mut [[u8; 16]; 8],
+    lines: &mut [u64],
+    cached: &mut [u8],
+    s: Scalars,
+    a: Access,
+    v: u32,
+    p: Place,
+) -> Outcome
+    requires { ⌜ MissReady (now memory) (now words) (now bytes) (s .used) a p × (length (now lines) ≡ 512) × (length (now cached) ≡ 16384)
+        × (s .counts .hits < countLimit) ⌝ }
+    ensures { λ r.
+        ⌜ ((pointers : List ℕ)
+        → Leaves (lists (now (memory .entry)) (now (words .entry)) (now (bytes .entry)) (now (lines .entry)) pointers (now (cached .entry))) s
+        (lists (now (memory .exit)) (now (words .exit)) (now (bytes .exit)) (now (lines .exit)) pointers (now (cached .exit))) r
+        (λ (m : Machine). spec.swap m a v p)) ⌝ }
+{
+    let va = translation::cleared(a);
+    let found = cache::find(lines, va);
+    match found {
+        Search::At(i) => swap_hit(lines, cached, s, a, v, i),
+        Search::Nothing => swap_miss(memory, words, bytes, s, a, v, p),
+    }
+}
