@@ -16,7 +16,7 @@ use Rattle.values.specs.Kinds.{isStore}
 use Rattle.values.specs.declared.VirtualAddress.{VirtualAddress}
 use Rattle.values.specs.declared.Registers.{Registers}
 use Rattle.values.specs.declared.Kind.{Kind}
-use Rattle.values.specs.declared.Kind.the-variants.{Load, SignedLoad, Store}
+use Rattle.values.specs.declared.Kind.the-variants.{Load, SignedLoad, Store, Swap}
 use Rattle.values.specs.declared.Access.{Access}
 use Rattle.values.specs.declared.Transfer.{Transfer}
 use Rattle.values.specs.declared.Call.{Call}
@@ -42,7 +42,7 @@ use Rattle.translation.proofs.Laws.{in-word}
 use Rattle.registers.specs.Registers.{writtenOf}
 use Rattle.refusals.specs.Refusals.{row5, callRows, callRefusal}
 use Rattle.refusals.proofs.Rows.{row-met, row-unmet}
-use Rattle.plain.specs.Plain.{Plain, PlainStepped, plainStepped, plainPhysical, plainFaulted, plainReach, plainLoad, plainStore, plainWritten}
+use Rattle.plain.specs.Plain.{Plain, PlainStepped, plainStepped, plainPhysical, plainFaulted, plainReach, plainLoad, plainStore, plainSwap, plainWritten}
 use Rattle.plain.specs.Plain.{plainPassed, plainAt, plainAccess, plainWrite, plainDone, plainBy, plainly, plainRefusal, counted}
 use Rattle.plain.specs.Code.{Kept, Steps, Inside}
 
@@ -77,6 +77,14 @@ module _ (p : Plain) (a : Access) (l : Place) where
       unfolding plainStore
       store-other f = rw (h, f)
 
+    pub swap-in : aborts (plainPhysical p) (l .address) ≡ false → plainSwap p a v l ≡ plainStepped (plainStore p a v l .plain) (plainLoad p a l .answer)
+    unfolding plainSwap
+    swap-in h = rw h
+
+    pub swap-other : aborts (plainPhysical p) (l .address) ≡ true → plainSwap p a v l ≡ plainFaulted p (otherStatus l) (l .domain) (a .address)
+    unfolding plainSwap
+    swap-other h = rw h
+
 -- ---- by the access's kind
 
 -- a kind whose variant is the first or the second loads
@@ -84,11 +92,13 @@ pub loads : (k : Kind) → OneOf (0 ∷ 1 ∷ []) (tagOf kinds.the-type k) → i
 loads Load h = refl
 loads SignedLoad h = refl
 loads (Store v) h = ⊎-elim (λ e. absurd (omega arith)) (λ e. absurd (omega arith)) h
+loads (Swap v) h = ⊎-elim (λ e. absurd (omega arith)) (λ e. absurd (omega arith)) h
 
 pub passed-load : (p : Plain) (a : Access) (l : Place) (k : Kind) → isStore k ≡ false → plainPassed p a l k ≡ plainLoad p a l
 passed-load p a l Load h = refl
 passed-load p a l SignedLoad h = refl
 passed-load p a l (Store v) h = clash {b = true} refl h
+passed-load p a l (Swap v) h = clash {b = true} refl h
 
 -- an access whose word answers lies in memory whole: no access crosses a word
 pub inside-fits : (memory : List ℕ) (a : Access) (l : Place) → Inside memory a l → l .address .0 + a .width ≤ length memory

@@ -139,10 +139,12 @@ fn swap(memory: &mut [u8], s: PlainState, a: Access, v: u32, p: Place) -> Outcom
         return faulted(s, translation::other_status(p), p.domain, address);
     }
     let loaded = load(memory, s, a, p);
+    let old = loaded.answer;
     let stored = store(memory, s, a, v, p);
+    let after = stored.state;
     Outcome {
-        state: stored.state,
-        answer: loaded.answer,
+        state: after,
+        answer: old,
     }
 }
 

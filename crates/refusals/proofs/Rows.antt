@@ -4,18 +4,20 @@ use native.Mathlib.Omega.{arith}
 use mathlib.Core.Bool.{true, false, not}
 use mathlib.Core.Path.{_≡_, refl}
 use mathlib.Core.List.{List, [], _∷_, _++_}
-use lib.Dec.{ltb}
+use lib.Dec.{eqb, ltb}
 use borrow.Author.Tests.{ltb-true, not-false}
 use Rattle.values.specs.Lists.{all}
 use Rattle.values.specs.Rows.{Row, firstMet}
 use Rattle.values.specs.Control.{listed}
+use Rattle.values.specs.declared.Kind.{Kind}
+use Rattle.values.specs.declared.Kind.the-variants.{Load, SignedLoad, Store, Swap}
 use Rattle.values.specs.declared.Access.{Access}
 use Rattle.values.specs.declared.Transfer.{Transfer}
 use Rattle.values.specs.declared.Call.the-variants.{Write}
 use Rattle.values.specs.declared.Call.the-variants as calls
 use Rattle.values.proofs.Cases.{case, and-left, and-right}
 use Rattle.words.specs.Words.{isWidth}
-use Rattle.refusals.specs.Refusals.{refusalIn, row6, row7, row8, row9, row10, row11, row12, valueFits, callRefusal}
+use Rattle.refusals.specs.Refusals.{refusalIn, row6, row7, row8, row9, row10, row11, row12, widthFits, valueFits, callRefusal}
 
 module _ (r : Row ℕ) (rs : List (Row ℕ)) where
   pub row-met : r .met ≡ true → refusalIn (r ∷ rs) ≡ r .gives
@@ -58,12 +60,25 @@ rows-passed (r ∷ rs) ys p h =
     let e = rows-passed rs ys q (k .1) in
     (rw (k .0) (e .0), e .1)
 
+-- a width of a kind is 1, 2 or 4
+pub is-width : (k : Kind) (w : ℕ) → widthFits w k ≡ true → isWidth w ≡ true
+is-width Load w h = h
+is-width SignedLoad w h = h
+is-width (Store v) w h = h
+is-width (Swap v) w h = and-left (isWidth w) (not (eqb w 2)) h
+
+pub no-width : (k : Kind) (w : ℕ) → isWidth w ≡ false → widthFits w k ≡ false
+no-width Load w h = h
+no-width SignedLoad w h = h
+no-width (Store v) w h = h
+no-width (Swap v) w h = rw h
+
 -- an access that is not refused has a width, and its value fits it
 pub access-accepted : (a : Access) → callRefusal (calls.Access a) ≡ 0 → (isWidth (a .width) ≡ true) × (valueFits (a .width) (a .kind) ≡ true)
 access-accepted a h =
     let k = row-passed (row6 a) (row7 a ∷ []) (omega arith) h in
     let j = row-passed (row7 a) [] (omega arith) (k .1) in
-    (not-false (isWidth (a .width)) (k .0), not-false (valueFits (a .width) (a .kind)) (j .0))
+    (is-width (a .kind) (a .width) (not-false (widthFits (a .width) (a .kind)) (k .0)), not-false (valueFits (a .width) (a .kind)) (j .0))
 
 -- a control write that is not refused gives a listed combination
 pub write-listed : (t : Transfer) (v : ℕ) → callRefusal (Write t v) ≡ 0 → t .register ≡ 1 → listed v ≡ true

@@ -34,10 +34,12 @@ fn swap_hit(
         ≡ spec.swapHit (machineOf (lists memory words bytes (now (lines .entry)) pointers (now (store .entry))) entries s size) a v i) ⌝ }
 {
     let read = loads::load_hit(store, s, a, i);
+    let old = read.answer;
     let written = stores::store_hit(lines, store, s, a, v, i);
+    let after = written.scalars;
     Outcome {
-        scalars: written.scalars,
-        answer: read.answer,
+        scalars: after,
+        answer: old,
     }
 }
 
@@ -59,10 +61,12 @@ fn swap_direct(
     let drained = machine::drain(memory, words, bytes, s);
     let read = loads::load_uncached(memory, words, bytes, drained, a, p);
     let left = read.scalars;
+    let old = read.answer;
     let written = stores::store_direct(memory, words, bytes, left, a, v, p);
+    let after = written.scalars;
     Outcome {
-        scalars: written.scalars,
-        answer: read.answer,
+        scalars: after,
+        answer: old,
     }
 }
 

@@ -17,6 +17,12 @@ enum-known-k c = search needs
 store-requires : tie.Need-store-requires
 store-requires c κs = search needs
 
+enum-known-k-2 : tie.Need-enum-known-k-2
+enum-known-k-2 c = search needs
+
+swap-requires : tie.Need-swap-requires
+swap-requires c κs = search needs
+
 same-length : tie.Need-same-length
 same-length c = search needs
 
@@ -38,6 +44,17 @@ returns-2 c =
     let e = ap (λ (k : Kind). plainPassed (plainOf (now (a .memory)) (a .s)) (a .a) (a .p) k) (arm .k .given .1) in
     record { same = stored .store .ensures .same ∙ sym e; kept = stored .store .ensures .kept }
 
+same-length-3 : tie.Need-same-length-3
+same-length-3 c = search needs
+
+returns-3 : tie.Need-returns-3
+returns-3 c =
+    let swapped = c .before .before in
+    let arm = swapped .before .before .before in
+    let a = arm .before .before .before .args in
+    let e = ap (λ (k : Kind). plainPassed (plainOf (now (a .memory)) (a .s)) (a .a) (a .p) k) (arm .k2 .given .1) in
+    record { same = swapped .swap .ensures .same ∙ sym e; kept = swapped .swap .ensures .kept }
+
 pub passed-spec : {M : Type 1} → statement M
 passed-spec =
     tie.close
@@ -45,7 +62,11 @@ passed-spec =
     load-requires
     enum-known-k
     store-requires
+    enum-known-k-2
+    swap-requires
     same-length
     returns
     same-length-2
-    returns-2)
+    returns-2
+    same-length-3
+    returns-3)

@@ -41,13 +41,23 @@ transfer-of-requires-2 c κs = search needs
 
 returns-5 : tie.Need-returns-5
 unfolding callOf
-returns-5 c = let four = c .before in
+returns-5 c = let three = c .before .before .before in
+    let one = three .before .before in
+    let v = one .before .args .v in
+    rw (c .before .if5 .taken) (ap (λ (t : Transfer). Write t v) (c .transfer-of2 .ensures))
+
+access-of-requires-4 : tie.Need-access-of-requires-4
+access-of-requires-4 c κs = search needs
+
+returns-6 : tie.Need-returns-6
+unfolding callOf
+returns-6 c = let five = c .before in
+    let four = five .before in
     let three = four .before in
     let two = three .before in
     let one = two .before in
-    let v = one .before .args .v in
-    rw (ne-eqb _ _ (one .if1 .left), ne-eqb _ _ (two .if2 .left), ne-eqb _ _ (three .if3 .left), ne-eqb _ _ (four .if4 .left))
-    (ap (λ (t : Transfer). Write t v) (c .transfer-of2 .ensures))
+    rw (ne-eqb _ _ (one .if1 .left), ne-eqb _ _ (two .if2 .left), ne-eqb _ _ (three .if3 .left), ne-eqb _ _ (four .if4 .left), ne-eqb _ _ (five .if5 .left))
+    (ap calls.Access (c .access-of4 .ensures))
 
 pub call-of-spec : {M : Type 1} → statement M
 call-of-spec =
@@ -62,4 +72,6 @@ call-of-spec =
     transfer-of-requires
     returns-4
     transfer-of-requires-2
-    returns-5)
+    returns-5
+    access-of-requires-4
+    returns-6)
