@@ -13,9 +13,6 @@ use Rattle.values.specs.declared.Transfer.{Transfer}
 use Rattle.values.specs.declared.Search.the-variants.{At, Nothing}
 use Rattle.values.specs.declared.Answer.the-variants as answer
 use Rattle.tlb.specs.Tlb.{flushed, dropped}
-use Rattle.buffer.specs.Buffer.{drained}
-use Rattle.buffer.specs.Packing.{backingOf}
-use Rattle.buffer.specs.Ranges.{Left}
 use Rattle.cache.specs.Dcache.{Dcache, Side, dcacheFrom, find, lineFlushed, flushedAt, allFlushed, cleaned, cleanedAt}
 use Rattle.cache.specs.Packing.{linesOf, sideOf, SentIs, HoldsLine}
 use Rattle.cache.proofs.Lines.{line-at}
@@ -23,14 +20,13 @@ use Rattle.cache.proofs.Finds.{found}
 use Rattle.registers.specs.Pairs.{isPair}
 use Rattle.registers.specs.Registers.{writtenOf}
 use Rattle.values.specs.Counts.{countLimit, sent}
-use Rattle.machine.specs.Machine.{Machine, withCache, withEntries, Stepped, answersZero}
-use Rattle.machine.specs.Machine as machines
+use Rattle.machine.specs.Machine.{Machine, withCache, withEntries, drainedAll, Stepped, answersZero}
 use Rattle.machine.specs.Machine as machines
 use Rattle.machine.specs.Scalars.{withCounts, withUsed, withRegisters, outcomeFrom}
 use Rattle.machine.specs.declared.Scalars.{Scalars}
-use Rattle.machine.specs.Lists.{Lists, lists, machineOf, steppedOf}
+use Rattle.machine.specs.Lists.{Lists, machineOf, steppedOf}
 use Rattle.machine.specs.Ready.{CleanReady}
-use Rattle.cp15.specs.Operations.{operated, cleanedLine, drainedAll, write}
+use Rattle.cp15.specs.Operations.{operated, cleanedLine, write}
 
 -- ---- which operation a pair asks for
 
@@ -134,12 +130,6 @@ pub clean-room : (memory words : List ℕ) (bytes : List (List ℕ)) (lines stor
     → halves ≡ cleanedAt (sideOf memory words bytes (s .used) lines ps store) (At i) .halves → s .counts .halves + halves ≤ countLimit
 unfolding cleanedAt
 clean-room memory words bytes lines store ps s i halves k h e = rw (e, line-at lines i) (k .halves i h)
-
-pub drain-left : (es : List ℕ) (s : Scalars) (n : ℕ) (l : Lists) (m ws : List ℕ) (bs : List (List ℕ))
-    → Left m ws bs 0 (drained (backingOf (l .memory) (l .words) (l .bytes) (s .used)))
-    → machineOf (lists m ws bs (l .lines) (l .pointers) (l .store)) es (withUsed s 0) n ≡ drainedAll (machineOf l es s n)
-drain-left es s n l m ws bs e =
-    ap (machines.withBacking (machineOf l es s n)) (e .same)
 
 -- a write, once its operation is done
 pub write-left : (es fs : List ℕ) (s u : Scalars) (n : ℕ) (l k : Lists) (t : Transfer) (v : ℕ) (r : Registers) (q : Scalars)

@@ -52,12 +52,11 @@ module _ (es : List ℕ) (s : Scalars) (n : ℕ) (a : Access) (v : ℕ) (l : Lis
       answersZero (machines.withBacking (machineOf l es s n) b)
 
   module _ (p : Place) (r : Scalars) where
-    pub direct-left : (m k ws : List ℕ) (bs : List (List ℕ))
-        → Left k ws bs 0 (drained (backingOf (l .memory) (l .words) (l .bytes) (s .used))) → m ≡ stored (a .width) k (p .address .0) v
-        → r ≡ withUsed s 0 → o ≡ storedBy r
+    pub direct-left : (m k ws : List ℕ) (bs : List (List ℕ)) → r ≡ withUsed s 0
+        → Left k ws bs 0 (drained (backingOf (l .memory) (l .words) (l .bytes) (s .used))) → m ≡ stored (a .width) k (p .address .0) v → o ≡ storedBy r
         → steppedOf (lists m ws bs (l .lines) (l .pointers) (l .store)) es n o ≡ storeDirect (machineOf l es s n) a v p
     unfolding storeDirect
-    direct-left m k ws bs e f g h =
+    direct-left m k ws bs g e f h =
         rw (h, g, f) (ap (λ (b : Backing). made-by (withMemory b (stored (a .width) (b .memory) (p .address .0) v))) (e .same))
 
     pub buffered-left : (m ws : List ℕ) (bs : List (List ℕ)) (used : ℕ) → aborts (physical (l .memory)) (p .address) ≡ false

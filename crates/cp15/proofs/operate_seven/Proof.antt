@@ -1,5 +1,6 @@
 use Rattle.cp15.proofs.Laws.{seven-flush, seven-line, seven-clean, seven-drain, seven-nothing}
 use Rattle.machine.specs.Machine.{withCache}
+use Rattle.machine.proofs.Laws.{drain-left}
 use Rattle.cache.specs.Dcache.{Dcache, dcacheFrom, allFlushed}
 use Rattle.values.specs.declared.Line.{Line}
 use Rattle.machine.specs.Lists.{lists, machineOf}
@@ -116,11 +117,11 @@ returns-4 c =
     let g : isPair (a .t) 1 6 ≡ false = sym (after-is-pair .is-pair .ensures) ∙ else2 .if2 .left in
     let h : isPair (a .t) 1 10 ≡ false = sym (after-is-pair2 .is-pair2 .ensures) ∙ else3 .if3 .left in
     let i : isPair (a .t) 4 10 ≡ true = sym (after-is-pair3 .is-pair3 .ensures) ∙ then4 .if4 .taken in
-    λ ps. record {
-      same = λ es n. after-drain .drain .ensures (now (a .lines)) ps (now (a .store)) .same es n
-          ∙ sym (seven-drain (machineOf (lists (now (a .memory)) (now (a .words)) (now (a .bytes)) (now (a .lines)) ps (now (a .store))) es (a .s) n)
-          (a .t) (a .va) (start .pre .0) f g h i);
-      bytes-long = after-drain .drain .ensures (now (a .lines)) ps (now (a .store)) .bytes-long;
+    let d = after-drain .drain in
+    λ ps. let l = lists (now (a .memory)) (now (a .words)) (now (a .bytes)) (now (a .lines)) ps (now (a .store)) in record {
+      same = λ es n. drain-left es (a .s) _ n l (d .last .0) (d .last .1 .0) (d .last .1 .1 .0) (d .ensures .0) (d .ensures .1)
+          ∙ sym (seven-drain (machineOf l es (a .s) n) (a .t) (a .va) (start .pre .0) f g h i);
+      bytes-long = d .ensures .1 .fits .bytes-long;
     }
 
 returns-5 : tie.Need-returns-5

@@ -21,9 +21,6 @@ store-requires c κs =
     let h = lies-inside (now (a .memory)) (now (a .words)) (now (a .bytes)) (a .s .used) (a .a) (a .p) (start .pre .0) (start .pre .1) in
     (start .pre .0 .width, omega (arith, h, given-memory .memory .given))
 
-with-used-requires : tie.Need-with-used-requires
-with-used-requires c κs = search needs
-
 stored-requires : tie.Need-stored-requires
 stored-requires c κs = search needs
 
@@ -35,15 +32,16 @@ same-length-2 c = search needs
 
 returns : tie.Need-returns
 returns c =
-    let after-with-used = c .before in let after-store = after-with-used .before .before .before in
+    let after-store = c .before .before .before in
     let after-drain = after-store .before .before .before .before .before .before .before in
     let start = after-drain .before .before .before .before .before .before .before in
     let a = start .args in
+    let drained = after-drain .drain in
     λ ls ps st. record {
       same = λ es n. direct-left es (a .s) n (a .a) (a .v) (lists (now (a .memory)) (now (a .words)) (now (a .bytes)) ls ps st) _ (a .p) _
-          (after-store .store .last .0) (after-drain .drain .last .0) (after-drain .drain .last .1 .0) (after-drain .drain .result)
-          (after-drain .drain .ensures) (after-store .store .ensures) (after-with-used .with-used .ensures) (c .stored .ensures);
-      bytes-long = after-drain .drain .ensures .fits .bytes-long;
+          (after-store .store .last .0) (drained .last .0) (drained .last .1 .0) (drained .last .1 .1 .0)
+          (drained .ensures .0) (drained .ensures .1) (after-store .store .ensures) (c .stored .ensures);
+      bytes-long = drained .ensures .1 .fits .bytes-long;
     }
 
 pub store-direct-spec : {M : Type 1} → statement M
@@ -53,7 +51,6 @@ store-direct-spec =
     drain-requires
     cast-store
     store-requires
-    with-used-requires
     stored-requires
     same-length
     same-length-2
