@@ -8,12 +8,13 @@ use types.Run.{OneOf}
 use denote.Enum.Declared.{tagOf}
 use Rattle.values.specs.declared.Access.{Access}
 use Rattle.values.specs.declared.Kind.{Kind}
-use Rattle.values.specs.declared.Kind.the-variants.{Load, SignedLoad, Store}
+use Rattle.values.specs.declared.Kind.the-variants.{Load, SignedLoad, Store, Swap}
 use Rattle.values.proofs.Kind as kinds
 use Rattle.translation.specs.declared.Place.{Place}
 use Rattle.machine.specs.Machine.{Machine}
 use Rattle.loads.specs.Loads.{load}
 use Rattle.stores.specs.Stores.{store}
+use Rattle.swaps.specs.Swaps.{swap}
 use Rattle.access.specs.Access.{passed}
 
 -- the first two kinds load
@@ -22,6 +23,11 @@ loads-by m a p Load h = refl
 loads-by m a p SignedLoad h = refl
 loads-by m a p (Store v) (inl h) = absurd (omega arith)
 loads-by m a p (Store v) (inr h) = absurd (omega arith)
+loads-by m a p (Swap v) (inl h) = absurd (omega arith)
+loads-by m a p (Swap v) (inr h) = absurd (omega arith)
 
 pub stores-by : (m : Machine) (a : Access) (p : Place) (k : Kind) (v : ℕ) → k ≡ Store v → passed m a p k ≡ store m a v p
 stores-by m a p k v h = rw h
+
+pub swaps-by : (m : Machine) (a : Access) (p : Place) (k : Kind) (v : ℕ) → k ≡ Swap v → passed m a p k ≡ swap m a v p
+swaps-by m a p k v h = rw h

@@ -1,4 +1,4 @@
-use Rattle.access.proofs.ByKind.{loads-by, stores-by}
+use Rattle.access.proofs.ByKind.{loads-by, stores-by, swaps-by}
 use Rattle.machine.specs.Lists.{lists, machineOf}
 use mathlib.Core.Path.{sym, _∙_}
 use denote.Ref.{now}
@@ -14,6 +14,18 @@ enum-known-k c = search needs
 
 store-requires : tie.Need-store-requires
 store-requires c κs =
+    let start = c .before .before .before .before .before .before .before .before .before .before .before .before .before in (
+      record { fits = start .pre .0 .fits; whole = start .pre .0 .whole; width = start .pre .1; place = start .pre .2 },
+      start .pre .0 .lines-long,
+      start .pre .0 .store-long,
+      start .pre .0 .hits,
+    )
+
+enum-known-k-2 : tie.Need-enum-known-k-2
+enum-known-k-2 c = search needs
+
+swap-requires : tie.Need-swap-requires
+swap-requires c κs =
     let start = c .before .before .before .before .before .before .before .before .before .before .before .before .before in (
       record { fits = start .pre .0 .fits; whole = start .pre .0 .whole; width = start .pre .1; place = start .pre .2 },
       start .pre .0 .lines-long,
@@ -74,6 +86,32 @@ returns-2 c =
       bytes-long = k .bytes-long;
     }
 
+same-length-10 : tie.Need-same-length-10
+same-length-10 c = search needs
+
+same-length-11 : tie.Need-same-length-11
+same-length-11 c = search needs
+
+same-length-12 : tie.Need-same-length-12
+same-length-12 c = search needs
+
+same-length-13 : tie.Need-same-length-13
+same-length-13 c = search needs
+
+returns-3 : tie.Need-returns-3
+returns-3 c =
+    let after-swap = c .before .before .before .before .before .before .before .before in
+    let arm-k = after-swap .before .before .before .before .before .before .before in
+    let start = arm-k .before .before .before .before .before .before .before in
+    let a = start .args in
+    let k = after-swap .swap .ensures (now (a .pointers)) in
+    record {
+      same = λ es n. k .same es n ∙ sym (swaps-by
+          (machineOf (lists (now (a .memory)) (now (a .words)) (now (a .bytes)) (now (a .lines)) (now (a .pointers)) (now (a .store))) es (a .s) n) (a .a)
+          (a .p) (a .a .kind) _ (arm-k .k2 .given .1));
+      bytes-long = k .bytes-long;
+    }
+
 pub passed-spec : {M : Type 1} → statement M
 passed-spec =
     tie.close
@@ -81,6 +119,8 @@ passed-spec =
     load-requires
     enum-known-k
     store-requires
+    enum-known-k-2
+    swap-requires
     same-length
     same-length-2
     same-length-3
@@ -91,4 +131,9 @@ passed-spec =
     same-length-7
     same-length-8
     same-length-9
-    returns-2)
+    returns-2
+    same-length-10
+    same-length-11
+    same-length-12
+    same-length-13
+    returns-3)
