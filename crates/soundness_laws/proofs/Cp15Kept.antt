@@ -16,9 +16,9 @@ use Rattle.refusals.proofs.Rows.{write-listed}
 use Rattle.buffer.specs.Buffer.{drained}
 use Rattle.cache.specs.Dcache.{cleaned, lineFlushed, allFlushed}
 use Rattle.cache.proofs.Counting.{clean-dirties, flush-dirties, flush-all-dirties}
-use Rattle.machine.specs.Machine.{Machine, memoryOf, withSide, withCache, withEntries}
+use Rattle.machine.specs.Machine.{Machine, memoryOf, withSide, withCache, withEntries, drainedAll}
 use Rattle.soundness_test.specs.Meaning.{linesOf}
-use Rattle.cp15.specs.Operations.{flushesDcache, flushesLine, cleansLine, drains, flushesTlb, dropsEntries, cleanedLine, drainedAll, operated, read, write}
+use Rattle.cp15.specs.Operations.{flushesDcache, flushesLine, cleansLine, drains, flushesTlb, dropsEntries, cleanedLine, operated, read, write}
 use Rattle.soundness_laws.proofs.RegistersKept.{written-kept}
 use Rattle.soundness_laws.proofs.TlbKept as tlb
 use Rattle.soundness_laws.proofs.BackingKept.{drained-kept}
