@@ -33,7 +33,8 @@ numbers-of k p w x v h g =
     case (eqb k 0) (λ t. rw t (h, tt))
     (λ t0. case (eqb k 1) (λ t. rw (t0, t) (h, tt))
     (λ t1. case (eqb k 2) (λ t. rw (t0, t1, t) (h, g))
-    (λ t2. case (eqb k 3) (λ t. rw (t0, t1, t2, t) tt) (λ t3. rw (t0, t1, t2, t3) g))))
+    (λ t2. case (eqb k 3) (λ t. rw (t0, t1, t2, t) tt)
+    (λ t3. case (eqb k 4) (λ t. rw (t0, t1, t2, t3, t) g) (λ t4. rw (t0, t1, t2, t3, t4) (h, g))))))
 
 -- ---- the loop
 
