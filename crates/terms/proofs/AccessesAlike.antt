@@ -1,4 +1,4 @@
--- An access: alignment, translation and rights, then the load or the store. R4, R5 and R6 are used in translation alone.
+-- An access: alignment, translation and rights, then the load, the store or the swap. R4, R5 and R6 are used in translation alone.
 use Prim.Native.Nat.{ℕ, _<_}
 use mathlib.Core.Bool.{true, false, not}
 use mathlib.Core.Path.{_≡_, refl, sym, _∙_, subst}
@@ -8,7 +8,7 @@ use Rattle.values.specs.declared.VirtualAddress.{VirtualAddress}
 use Rattle.values.specs.declared.Registers.{Registers}
 use Rattle.values.specs.declared.Counts.{Counts}
 use Rattle.values.specs.declared.Kind.{Kind}
-use Rattle.values.specs.declared.Kind.the-variants.{Load, SignedLoad, Store}
+use Rattle.values.specs.declared.Kind.the-variants.{Load, SignedLoad, Store, Swap}
 use Rattle.values.specs.declared.Access.{Access}
 use Rattle.values.specs.declared.Status.{Status}
 use Rattle.values.proofs.Cases.{case, and-both}
@@ -39,6 +39,7 @@ use Rattle.terms.proofs.Alike.{Shared, Alike, alike-by, faulted-alike}
 use Rattle.terms.proofs.Passing.{Passes}
 use Rattle.terms.proofs.LoadsAlike.{load-alike}
 use Rattle.terms.proofs.StoresAlike.{store-alike}
+use Rattle.terms.proofs.SwapsAlike.{swap-alike}
 
 -- a miss is no call
 calls-after : (c : Counts) (t : Translation) → countsAfter c t .calls ≡ c .calls
@@ -145,6 +146,7 @@ module _ (n : ℕ) (m : Machine) (p : Plain) (h : History) (k : Shared n m p h) 
     passed-alike Load = load-alike n m₁ p (afterReach h va (Passed l)) a l passes
     passed-alike SignedLoad = load-alike n m₁ p (afterReach h va (Passed l)) a l passes
     passed-alike (Store v) = store-alike n m₁ p (afterReach h va (Passed l)) a v l passes
+    passed-alike (Swap v) = swap-alike n m₁ p (afterReach h va (Passed l)) a v l passes
 
   -- an access that is denied leaves the history as it was
   denied-after : (x : Kind) (s : Status) (d : ℕ) → afterKind x (afterReach h va (Denied s d)) (plainPhysical p) va (Denied s d) ≡ h
@@ -152,6 +154,7 @@ module _ (n : ℕ) (m : Machine) (p : Plain) (h : History) (k : Shared n m p h) 
   denied-after Load s d = refl
   denied-after SignedLoad s d = refl
   denied-after (Store v) s d = refl
+  denied-after (Swap v) s d = refl
 
   by-check : (c : Checked) → decision m a .checked ≡ c → Alike n (access m a) (plainAccess p a) (after c)
   by-check (Denied s d) e =

@@ -12,7 +12,7 @@ use Rattle.values.specs.declared.Fault.{Fault}
 use Rattle.values.specs.declared.Answer.{Answer}
 use Rattle.values.specs.declared.Answer.the-variants as answer
 use Rattle.values.specs.declared.Kind.{Kind}
-use Rattle.values.specs.declared.Kind.the-variants.{Load, SignedLoad, Store}
+use Rattle.values.specs.declared.Kind.the-variants.{Load, SignedLoad, Store, Swap}
 use Rattle.values.specs.declared.Access.{Access}
 use Rattle.values.specs.declared.Call.{Call}
 use Rattle.values.specs.declared.Call.the-variants.{Read, Write}
@@ -24,7 +24,8 @@ use Rattle.values.proofs.Cases.{case}
 use Rattle.words.specs.Words.{valueAt}
 use Rattle.words.specs.Signed.{loadAnswer}
 use Rattle.bus.specs.Physical.{aborts}
-use Rattle.cache.specs.Dcache.{find, hitLoad}
+use Rattle.buffer.specs.Buffer.{drained, ready}
+use Rattle.cache.specs.Dcache.{Side, find, hitLoad}
 use Rattle.translation.specs.Alignment.{cleared}
 use Rattle.translation.specs.Faults.{fills, buffers, fillStatus, otherStatus, faultSet}
 use Rattle.translation.specs.declared.Translation.{Translation}
@@ -35,6 +36,7 @@ use Rattle.machine.specs.Machine.{Machine, memoryOf, storeOf, physicalOf, withC
 use Rattle.reach.specs.Reach.{decision, committed, faulted}
 use Rattle.loads.specs.Loads.{loadHit, loadFill, loadUncached, loadMiss, loadFound, load}
 use Rattle.stores.specs.Stores.{storeHit, storeBuffered, storeDirect, storeMiss, storeFound, store}
+use Rattle.swaps.specs.Swaps.{swapHit, swapDirect, swapMiss, swapFound, swap}
 use Rattle.access.specs.Access.{passed, accessAt, access}
 use Rattle.registers.specs.Registers.{readOf}
 use Rattle.cp15.specs.Operations as cp15
@@ -45,23 +47,26 @@ use Rattle.terms.specs.Term1.{ValueOrFault, Term1At, Term1Start}
 
 -- ---- what an accepted call answers
 
--- A served access, over the machine that it leaves: a load answers the number of bytes of memory or of the cache store, from some place on; a store
--- answers 0.
-pub data Accessed (a : Access) (x : Stepped) : Type 0 where
-  of-memory : (at : ℕ) → x .answer ≡ loadAnswer (a .kind) (a .width) (valueAt (a .width) (memoryOf (x .machine)) at) → Accessed a x
-  of-cache : (at : ℕ) → x .answer ≡ loadAnswer (a .kind) (a .width) (valueAt (a .width) (storeOf (x .machine)) at) → Accessed a x
-  stores : (v : ℕ) → a .kind ≡ Store v → x .answer ≡ answer.Value 0 → Accessed a x
+-- A served access, over what it gets and the machine that it leaves: a load answers the number of bytes of memory or of the cache store that it leaves,
+-- from some place on; a store answers 0; a swap answers the number of bytes that it gets, of the cache store, or of memory once the buffer is drained.
+pub data Accessed (s : Side) (a : Access) (x : Stepped) : Type 0 where
+  of-memory : (at : ℕ) → x .answer ≡ loadAnswer (a .kind) (a .width) (valueAt (a .width) (memoryOf (x .machine)) at) → Accessed s a x
+  of-cache : (at : ℕ) → x .answer ≡ loadAnswer (a .kind) (a .width) (valueAt (a .width) (storeOf (x .machine)) at) → Accessed s a x
+  stores : (v : ℕ) → a .kind ≡ Store v → x .answer ≡ answer.Value 0 → Accessed s a x
+  swaps-cached : (at : ℕ) → x .answer ≡ loadAnswer (a .kind) (a .width) (valueAt (a .width) (s .cache .store) at) → Accessed s a x
+  swaps-memory : (at : ℕ)
+      → x .answer ≡ loadAnswer (a .kind) (a .width) (valueAt (a .width) (ready (drained (s .backing)) at (a .width) .memory) at) → Accessed s a x
 
 -- a served call: a CP15 read answers a register of the machine that it leaves, a CP15 write 0
-abbrev pub Answers : Call → Stepped → Type 0
-Answers (calls.Access a) x = Accessed a x
-Answers (Read t) x = x .answer ≡ answer.Value (readOf (x .machine .cp15 .registers) (t .register))
-Answers (Write t v) x = x .answer ≡ answer.Value 0
+abbrev pub Answers : Side → Call → Stepped → Type 0
+Answers s (calls.Access a) x = Accessed s a x
+Answers s (Read t) x = x .answer ≡ answer.Value (readOf (x .machine .cp15 .registers) (t .register))
+Answers s (Write t v) x = x .answer ≡ answer.Value 0
 
 -- ---- what holds of every fault, and of whatever answers a value, holds of every accepted call
 
 module _ (P : Stepped → Type 0) where
-  module _ (m : Machine) (a : Access) (value : (x : Stepped) → Accessed a x → P x) (fault : (s : Status) (d : ℕ) → P (faulted m s d (a .address))) where
+  module _ (m : Machine) (a : Access) (value : (x : Stepped) → Accessed (m .side) a x → P x) (fault : (s : Status) (d : ℕ) → P (faulted m s d (a .address))) where
     module _ (p : Place) where
       load-miss-by : P (loadMiss m a p)
       unfolding loadMiss loadFill loadUncached hitLoad
@@ -93,20 +98,33 @@ module _ (P : Stepped → Type 0) where
         store-found-by (At i) = value _ (stores v k refl)
         store-found-by Nothing = store-miss-by
 
+      module _ (v : ℕ) where
+        swap-miss-by : P (swapMiss m a v p)
+        unfolding swapMiss swapDirect loadUncached
+        swap-miss-by =
+            case (aborts (physicalOf m) (p .address)) (λ h. rw h (fault (otherStatus p) (p .domain)))
+            (λ h. rw h (value _ (swaps-memory _ refl)))
+
+        swap-found-by : (x : Search) → P (swapFound m a v p x)
+        unfolding swapHit loadHit hitLoad
+        swap-found-by (At i) = value _ (swaps-cached _ refl)
+        swap-found-by Nothing = swap-miss-by
+
       passed-by : (k : Kind) → a .kind ≡ k → P (passed m a p k)
-      unfolding load store
+      unfolding load store swap
       passed-by Load e = load-found-by (find (m .side .cache .lines) (cleared a))
       passed-by SignedLoad e = load-found-by (find (m .side .cache .lines) (cleared a))
       passed-by (Store v) e = store-found-by v e (find (m .side .cache .lines) (cleared a))
+      passed-by (Swap v) e = swap-found-by v (find (m .side .cache .lines) (cleared a))
 
     at-by : (c : Checked) → P (accessAt m a c)
     unfolding accessAt
     at-by (Denied s d) = fault s d
     at-by (Passed p) = passed-by p (a .kind) refl
 
-  pub done-by : (m : Machine) (c : Call) → ((x : Stepped) → Answers c x → P x)
+  pub done-by : (m : Machine) (c : Call) → ((x : Stepped) → Answers (m .side) c x → P x)
       → ((t : Translation) (s : Status) (d : ℕ) (va : VirtualAddress) → P (faulted (committed m t) s d va)) → P (done m c)
-  unfolding access cp15.read cp15.write
+  unfolding access committed cp15.read cp15.write
   done-by m (calls.Access a) value fault =
       let d = decision m a in at-by (committed m (d .mapping)) a value (λ s x. fault (d .mapping) s x (a .address)) (d .checked)
   done-by m (Read t) value fault = value _ refl
@@ -123,14 +141,18 @@ load-value : (k : Kind) (width v : ℕ) → IsValue (loadAnswer k width v)
 load-value Load width v = tt
 load-value SignedLoad width v = tt
 load-value (Store x) width v = tt
+load-value (Swap x) width v = tt
 
 -- what an accepted call answers but for a fault is a value
-answers-value : (c : Call) (x : Stepped) → Answers c x → IsValue (x .answer)
-answers-value (calls.Access a) x (of-memory at e) = subst IsValue (sym e) (load-value (a .kind) (a .width) (valueAt (a .width) (memoryOf (x .machine)) at))
-answers-value (calls.Access a) x (of-cache at e) = subst IsValue (sym e) (load-value (a .kind) (a .width) (valueAt (a .width) (storeOf (x .machine)) at))
-answers-value (calls.Access a) x (stores v k e) = subst IsValue (sym e) tt
-answers-value (Read t) x e = subst IsValue (sym e) tt
-answers-value (Write t v) x e = subst IsValue (sym e) tt
+answers-value : (s : Side) (c : Call) (x : Stepped) → Answers s c x → IsValue (x .answer)
+answers-value s (calls.Access a) x (of-memory at e) = subst IsValue (sym e) (load-value (a .kind) (a .width) (valueAt (a .width) (memoryOf (x .machine)) at))
+answers-value s (calls.Access a) x (of-cache at e) = subst IsValue (sym e) (load-value (a .kind) (a .width) (valueAt (a .width) (storeOf (x .machine)) at))
+answers-value s (calls.Access a) x (stores v k e) = subst IsValue (sym e) tt
+answers-value s (calls.Access a) x (swaps-cached at e) = subst IsValue (sym e) (load-value (a .kind) (a .width) (valueAt (a .width) (s .cache .store) at))
+answers-value s (calls.Access a) x (swaps-memory at e) =
+    subst IsValue (sym e) (load-value (a .kind) (a .width) (valueAt (a .width) (ready (drained (s .backing)) at (a .width) .memory) at))
+answers-value s (Read t) x e = subst IsValue (sym e) tt
+answers-value s (Write t v) x e = subst IsValue (sym e) tt
 
 -- ---- every accepted call answers a value or a fault
 
@@ -145,7 +167,7 @@ value-or-fault x v = by (x .answer) v
 
 done-answers : (m : Machine) (c : Call) → ValueOrFault (done m c .answer)
 unfolding faulted
-done-answers m c = done-by (λ x. ValueOrFault (x .answer)) m c (λ x v. value-or-fault x (answers-value c x v)) (λ t s d va. tt)
+done-answers m c = done-by (λ x. ValueOrFault (x .answer)) m c (λ x v. value-or-fault x (answers-value (m .side) c x v)) (λ t s d va. tt)
 
 -- ---- what a fault leaves
 
@@ -170,7 +192,7 @@ done-fault : (m : Machine) (c : Call) (f : Fault) → done m c .answer ≡ answe
 unfolding faulted committed faultSet
 done-fault m c =
     done-by (λ x. (f : Fault) → x .answer ≡ answer.Fault f → FaultKeeps m f (x .machine)) m c
-    (λ x v f e. absurd (no-fault (x .answer) (answers-value c x v) f e))
+    (λ x v f e. absurd (no-fault (x .answer) (answers-value (m .side) c x v) f e))
     (λ t s d va f e.
     let g : Fault = record { status = s; domain = d; address = va } in
     let q : g ≡ f = cc in

@@ -10,7 +10,7 @@ use Rattle.values.specs.Addresses.{virtualLine, physicalLine, wordOf}
 use Rattle.values.specs.declared.VirtualAddress.{VirtualAddress}
 use Rattle.values.specs.declared.PhysicalAddress.{PhysicalAddress}
 use Rattle.values.specs.declared.Kind.{Kind}
-use Rattle.values.specs.declared.Kind.the-variants.{Load, SignedLoad, Store}
+use Rattle.values.specs.declared.Kind.the-variants.{Load, SignedLoad, Store, Swap}
 use Rattle.values.specs.declared.Access.{Access}
 use Rattle.values.specs.declared.Transfer.{Transfer}
 use Rattle.values.specs.declared.Call.{Call}
@@ -107,6 +107,8 @@ module _ (h : History) (memory : Physical) (va : VirtualAddress) where
   kind-is SignedLoad (Passed p) = refl
   kind-is (Store v) (Denied s d) = refl
   kind-is (Store v) (Passed p) = case (aborts memory (p .address)) (λ t. rw t) (λ t. rw t)
+  kind-is (Swap v) (Denied s d) = refl
+  kind-is (Swap v) (Passed p) = case (aborts memory (p .address)) (λ t. rw t) (λ t. rw t)
 
 -- an access by whether it reaches and stores
 module _ (p : Plain) (h : History) (a : Access) where

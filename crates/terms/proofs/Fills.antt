@@ -14,7 +14,7 @@ use Rattle.values.specs.declared.PhysicalAddress.{PhysicalAddress}
 use Rattle.values.specs.declared.Line.{Line}
 use Rattle.values.specs.declared.Search.the-variants.{Nothing}
 use Rattle.values.proofs.Cases.{case, clash}
-use Rattle.buffer.specs.Buffer.{Backing, ready}
+use Rattle.buffer.specs.Buffer.{Backing, drained, ready}
 use Rattle.buffer.proofs.Below.{below}
 use Rattle.cache.specs.Dcache.{Side, sideFrom, find, victim, freshLine, halvesSent, filled}
 use Rattle.cache.proofs.PutGet.{filled-backing, line-filled, other-filled, byte-filled, byte-before-filled, byte-behind-filled}
@@ -24,9 +24,20 @@ use Rattle.soundness_laws.proofs.CacheKept.{SideIs, halves-kept}
 use Rattle.terms.specs.History.{Stage, History}
 use Rattle.terms.specs.Rules.{isStored}
 use Rattle.terms.proofs.Invariant.{at, dirtyAt, Undirty, Staged, byWord, byLine, SideAgrees}
-use Rattle.terms.proofs.BackingAgrees.{below-ready, ready-memory-below, staged-ready}
+use Rattle.terms.proofs.BackingAgrees.{below-drained, staged-still, below-ready, ready-memory-below, staged-ready}
 use Rattle.terms.proofs.HeldLines.{missed-frame}
 use Rattle.terms.proofs.SentLines.{sent-below, sent-staged}
+
+-- the buffer drained by a call that is no drain
+pub still-side : (n : ℕ) (s : Side) (k : SideIs n s) (pm : List ℕ) (h : History) → SideAgrees s pm h
+    → SideAgrees (sideFrom (s .cache) (drained (s .backing))) pm h
+still-side n s k pm h g =
+    record {
+      cache = g .cache;
+      under = λ x u. below-drained n (s .backing) (k .backing) x ∙ g .under x u;
+      words = staged-still n (s .backing) (k .backing) pm (byWord h) (g .words);
+      lines = staged-still n (s .backing) (k .backing) pm (byLine h) (g .lines);
+    }
 
 -- the buffer made ready for a read
 pub ready-side : (n : ℕ) (s : Side) (k : SideIs n s) (pm : List ℕ) (h : History) (a w : ℕ) → SideAgrees s pm h

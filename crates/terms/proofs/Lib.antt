@@ -21,6 +21,7 @@ pub mod Alike
 pub mod Passing
 pub mod LoadsAlike
 pub mod StoresAlike
+pub mod SwapsAlike
 pub mod AccessesAlike
 pub mod WritesAlike
 pub mod StartAgrees

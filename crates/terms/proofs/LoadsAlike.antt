@@ -69,7 +69,7 @@ module _ (n : ℕ) (m : Machine) (p : Plain) (h : History) (a : Access) (l : Pla
       let g : pa / 32 * 32 + (o + j) ≡ pa + j = omega arith in
       ap (λ (x : ℕ). getD (c .store) x 0) e ∙ f (o + j) (omega arith) ∙ ap (λ (x : ℕ). getD (p .memory) x 0) g)
 
-  hit-alike : (i : ℕ) → find (m .side .cache .lines) (cleared a) ≡ At i → Alike n (loadHit m a i) (plainLoad p a l) h
+  pub hit-alike : (i : ℕ) → find (m .side .cache .lines) (cleared a) ≡ At i → Alike n (loadHit m a i) (plainLoad p a l) h
   unfolding loadHit
   hit-alike i e =
       let c = m .side .cache in
@@ -90,7 +90,7 @@ module _ (n : ℕ) (m : Machine) (p : Plain) (h : History) (a : Access) (l : Pla
         (line-value (s .side .cache) i
         (filled-byte n (m .side) (k .shared .side-is) (p .memory) h (k .shared .side) (cleared a) (l .address) (k .here) miss inside))
 
-    uncached-alike : aborts (plainPhysical p) (l .address) ≡ false → Alike n (loadUncached m a l) (plainLoad p a l) h
+    pub uncached-alike : aborts (plainPhysical p) (l .address) ≡ false → Alike n (loadUncached m a l) (plainLoad p a l) h
     unfolding loadUncached
     uncached-alike b =
         let w = in-line a (k .width) in

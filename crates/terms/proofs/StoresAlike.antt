@@ -79,7 +79,7 @@ module _ (n : ℕ) (m : Machine) (p : Plain) (h : History) (a : Access) (v : ℕ
           (buffered-side n (m .side) (k .shared .side-is) (p .memory) (k .shared .long) h (k .shared .side) (cleared a) l (a .width) v (k .here) miss fits
           (width-some (a .width) (k .width)) (answers-inside n m p h a l k b) (k .shared .whole)) refl)
 
-      direct-alike : Alike n (storeDirect m a v l) (plainStore p a v l) after
+      pub direct-alike : Alike n (storeDirect m a v l) (plainStore p a v l) after
       unfolding storeDirect
       direct-alike =
           let d = drained (m .side .backing) in
@@ -87,7 +87,7 @@ module _ (n : ℕ) (m : Machine) (p : Plain) (h : History) (a : Access) (v : ℕ
           (direct-side n (m .side) (k .shared .side-is) (p .memory) (k .shared .long) h (k .shared .side) (cleared a) l (a .width) v (k .here) miss fits
           (width-some (a .width) (k .width)) (answers-inside n m p h a l k b) (k .shared .whole)) refl
 
-  hit-alike : (i : ℕ) → find (m .side .cache .lines) (cleared a) ≡ At i → Alike n (storeHit m a v i) (plainStore p a v l) after
+  pub hit-alike : (i : ℕ) → find (m .side .cache .lines) (cleared a) ≡ At i → Alike n (storeHit m a v i) (plainStore p a v l) after
   unfolding storeHit
   hit-alike i e =
       let w = k .within in
@@ -98,7 +98,7 @@ module _ (n : ℕ) (m : Machine) (p : Plain) (h : History) (a : Access) (v : ℕ
   -- ---- the word aborts: the store is dropped, or faults
 
   module _ (b : aborts (plainPhysical p) (l .address) ≡ true) where
-    after-out : after ≡ h
+    pub after-out : afterStore h (plainPhysical p) (cleared a) (Passed l) ≡ h
     unfolding afterStore
     after-out = rw b
 

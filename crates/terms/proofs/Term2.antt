@@ -11,13 +11,13 @@ use borrow.Author.Tests.{eq-eqb, eqb-true, eqb-false}
 use Rattle.values.specs.Control.{mmu, system, rom}
 use Rattle.values.specs.Counts.{counted}
 use Rattle.values.specs.Empty.{emptyEntry}
-use Rattle.values.specs.Kinds.{isStore}
+use Rattle.values.specs.Kinds.{isStore, isSwap}
 use Rattle.values.specs.Rows.{Row, firstMet}
 use Rattle.values.specs.declared.VirtualAddress.{VirtualAddress}
 use Rattle.values.specs.declared.Registers.{Registers}
 use Rattle.values.specs.declared.Entry.{Entry}
 use Rattle.values.specs.declared.Kind.{Kind}
-use Rattle.values.specs.declared.Kind.the-variants.{Load, SignedLoad, Store}
+use Rattle.values.specs.declared.Kind.the-variants.{Load, SignedLoad, Store, Swap}
 use Rattle.values.specs.declared.Access.{Access}
 use Rattle.values.specs.declared.Status.{Status}
 use Rattle.values.specs.declared.Status.the-variants.{WalkFirst, WalkSecond, TranslationSection, TranslationPage, DomainSection, DomainPage}
@@ -51,6 +51,7 @@ use Rattle.machine.specs.Machine.{Machine, physicalOf, withCounts}
 use Rattle.reach.specs.Reach.{decision, committed, faulted}
 use Rattle.loads.specs.Loads.{loadHit, loadFill, loadUncached, loadMiss, loadFound, load}
 use Rattle.stores.specs.Stores.{storeHit, storeBuffered, storeDirect, storeMiss, storeFound, store}
+use Rattle.swaps.specs.Swaps.{swapHit, swapDirect, swapMiss, swapFound, swap}
 use Rattle.access.specs.Access.{passed, accessAt, access}
 use Rattle.cp15.specs.Operations as cp15
 use Rattle.step.specs.Meets.{refusal}
@@ -121,11 +122,11 @@ module _ (given : VirtualAddress) where
       ∷ row (on && (eqb right 2 && not (eqb (e .size) 0))) PermissionPage (e .domain)
       ∷ rs
 
-  abbrev placeRows : Registers → Physical → Search → Bool → Place → List (Row Faulting)
-  placeRows r memory x store p =
+  abbrev placeRows : Registers → Physical → Search → Bool → Bool → Place → List (Row Faulting)
+  placeRows r memory x store swap p =
       let lost : Bool = isNothing x && aborts memory (p .address) in
       let onFill : Bool = lost && (not store && fills r p) in
-      let other : Bool = lost && cond store (not (buffers r p)) (not (fills r p)) in
+      let other : Bool = lost && (swap || cond store (not (buffers r p)) (not (fills r p))) in
       row (onFill && not (p .page)) FillSection (p .domain)
       ∷ row (onFill && p .page) FillPage (p .domain)
       ∷ row (other && not (p .page)) OtherSection (p .domain)
@@ -210,14 +211,15 @@ load-passes : (k : Kind) (width v : ℕ) → faultIn (loadAnswer k width v) ≡ 
 load-passes Load width v = refl
 load-passes SignedLoad width v = refl
 load-passes (Store x) width v = refl
+load-passes (Swap x) width v = refl
 
 module _ (m : Machine) (a : Access) where
   -- the rows of a place, by what the Dcache's search finds
-  abbrev searchRows : Search → Bool → Place → List (Row Faulting)
-  searchRows x store p = placeRows (a .address) (m .cp15 .registers) (physicalOf m) x store p
+  abbrev searchRows : Search → Bool → Bool → Place → List (Row Faulting)
+  searchRows x store swap p = placeRows (a .address) (m .cp15 .registers) (physicalOf m) x store swap p
 
   abbrev endRows : Place → List (Row Faulting)
-  endRows p = searchRows (find (m .side .cache .lines) (cleared a)) (isStore (a .kind)) p
+  endRows p = searchRows (find (m .side .cache .lines) (cleared a)) (isStore (a .kind)) (isSwap (a .kind)) p
 
   abbrev endOf : Place → Faulting
   endOf p = faultOf (endRows p)
@@ -230,7 +232,7 @@ module _ (m : Machine) (a : Access) where
       case (alignmentFaults r a) (λ t. rw t)
       (λ t. rw t (translated-rows r a endRows (m .entries) (physicalOf m) (mmu r) (lookup (m .entries) (cleared a))))
 
-  load-missed : (p : Place) → faultIn (loadMiss m a p .answer) ≡ faultOf (searchRows Nothing false p)
+  load-missed : (p : Place) → faultIn (loadMiss m a p .answer) ≡ faultOf (searchRows Nothing false false p)
   unfolding firstMet loadMiss loadFill loadUncached faulted
   load-missed p =
       case (fills (m .cp15 .registers) p)
@@ -241,30 +243,42 @@ module _ (m : Machine) (a : Access) where
       case (aborts (physicalOf m) (p .address)) (λ h. case (p .page) (λ g. rw (f, h, g)) (λ g. rw (f, h, g)))
       (λ h. rw (f, h) (load-passes (a .kind) (a .width) _)))
 
-  load-found : (p : Place) (x : Search) → faultIn (loadFound m a p x .answer) ≡ faultOf (searchRows x false p)
+  load-found : (p : Place) (x : Search) → faultIn (loadFound m a p x .answer) ≡ faultOf (searchRows x false false p)
   unfolding firstMet loadHit
   load-found p (At i) = load-passes (a .kind) (a .width) _
   load-found p Nothing = load-missed p
 
-  store-missed : (v : ℕ) (p : Place) → faultIn (storeMiss m a v p .answer) ≡ faultOf (searchRows Nothing true p)
+  store-missed : (v : ℕ) (p : Place) → faultIn (storeMiss m a v p .answer) ≡ faultOf (searchRows Nothing true false p)
   unfolding firstMet storeMiss storeBuffered storeDirect faulted
   store-missed v p =
       case (aborts (physicalOf m) (p .address))
       (λ h. case (buffers (m .cp15 .registers) p) (λ f. rw (f, h)) (λ f. case (p .page) (λ g. rw (f, h, g)) (λ g. rw (f, h, g))))
       (λ h. case (buffers (m .cp15 .registers) p) (λ f. rw (f, h)) (λ f. rw (f, h)))
 
-  store-found : (v : ℕ) (p : Place) (x : Search) → faultIn (storeFound m a v p x .answer) ≡ faultOf (searchRows x true p)
+  store-found : (v : ℕ) (p : Place) (x : Search) → faultIn (storeFound m a v p x .answer) ≡ faultOf (searchRows x true false p)
   unfolding firstMet storeHit
   store-found v p (At i) = refl
   store-found v p Nothing = store-missed v p
 
+  swap-missed : (v : ℕ) (p : Place) → faultIn (swapMiss m a v p .answer) ≡ faultOf (searchRows Nothing true true p)
+  unfolding firstMet swapMiss swapDirect loadUncached faulted
+  swap-missed v p =
+      case (aborts (physicalOf m) (p .address)) (λ h. case (p .page) (λ g. rw (h, g)) (λ g. rw (h, g)))
+      (λ h. rw h (load-passes (a .kind) (a .width) _))
+
+  swap-found : (v : ℕ) (p : Place) (x : Search) → faultIn (swapFound m a v p x .answer) ≡ faultOf (searchRows x true true p)
+  unfolding firstMet swapHit loadHit
+  swap-found v p (At i) = load-passes (a .kind) (a .width) _
+  swap-found v p Nothing = swap-missed v p
+
   -- an access that passes, by its kind
   passed-fault : (p : Place) (k : Kind)
-      → faultIn (passed m a p k .answer) ≡ faultOf (searchRows (find (m .side .cache .lines) (cleared a)) (isStore k) p)
-  unfolding load store
+      → faultIn (passed m a p k .answer) ≡ faultOf (searchRows (find (m .side .cache .lines) (cleared a)) (isStore k) (isSwap k) p)
+  unfolding load store swap
   passed-fault p Load = load-found p (find (m .side .cache .lines) (cleared a))
   passed-fault p SignedLoad = load-found p (find (m .side .cache .lines) (cleared a))
   passed-fault p (Store v) = store-found v p (find (m .side .cache .lines) (cleared a))
+  passed-fault p (Swap v) = swap-found v p (find (m .side .cache .lines) (cleared a))
 
   at-fault : (c : Checked) → faultIn (accessAt m a c .answer) ≡ byChecked (a .address) c endOf
   unfolding accessAt faulted

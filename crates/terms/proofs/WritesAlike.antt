@@ -16,9 +16,9 @@ use Rattle.registers.specs.Pairs.{isPair}
 use Rattle.registers.specs.Registers.{readOf, writtenOf}
 use Rattle.tlb.specs.Tlb as tlbs
 use Rattle.cache.specs.Dcache.{lineFlushed, allFlushed}
-use Rattle.machine.specs.Machine.{Machine, withCache, withEntries}
+use Rattle.machine.specs.Machine.{Machine, withCache, withEntries, drainedAll}
 use Rattle.cp15.specs.Operations.{flushesDcache, flushesLine, cleansLine, drains, flushesTlb, dropsEntries}
-use Rattle.cp15.specs.Operations.{cleanedLine, drainedAll, operated, read, write}
+use Rattle.cp15.specs.Operations.{cleanedLine, operated, read, write}
 use Rattle.plain.specs.Plain.{Plain, plainRead, plainWrite}
 use Rattle.terms.specs.History.{Stage, never, stored, cleaned, drained, flushed, History, afterClean, afterDrain}
 use Rattle.terms.specs.History.{afterWrite, afterLineClean, afterBufferDrain, afterWholeTlbFlush, afterWholeFlush, afterBaseWrite}
