@@ -11,7 +11,7 @@ use Rattle.values.specs.Lists.{all}
 use Rattle.values.specs.Rows.{Row, firstMet}
 use Rattle.values.specs.declared.Registers.{Registers}
 use Rattle.values.specs.declared.Kind.{Kind}
-use Rattle.values.specs.declared.Kind.the-variants.{Load, SignedLoad, Store}
+use Rattle.values.specs.declared.Kind.the-variants.{Load, SignedLoad, Store, Swap}
 use Rattle.values.specs.declared.Call.{Call}
 use Rattle.values.specs.declared.Call.the-variants.{Read, Write}
 use Rattle.values.specs.declared.Call.the-variants as calls
@@ -51,6 +51,7 @@ load-told k w v h =
     by Load n e g l = (refl, omega arith)
     by SignedLoad n e g l = signed-told (256 ^ n / 2) v (omega arith) (omega arith)
     by (Store y) n e g l = (refl, omega arith)
+    by (Swap y) n e g l = (refl, omega arith)
 
 -- ---- CP15 reads
 

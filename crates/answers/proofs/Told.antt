@@ -17,17 +17,22 @@ use Rattle.values.specs.declared.Call.the-variants as calls
 use Rattle.values.specs.declared.Answer.{Answer}
 use Rattle.values.specs.declared.Answer.the-variants as answer
 use Rattle.values.proofs.Cases.{case}
-use Rattle.words.specs.Words.{isWidth, valueAt}
+use Rattle.words.specs.Words.{isWidth, valueAt, Bytes}
+use Rattle.words.specs.Signed.{loadAnswer}
 use Rattle.translation.specs.Faults.{faultSet}
 use Rattle.refusals.specs.Refusals.{row5, callRows, callRefusal}
 use Rattle.refusals.proofs.Rows.{rows-passed, access-accepted}
 use Rattle.trace.specs.Calls.{callOf, callAt, isCallAt}
 use Rattle.trace.specs.Fold.{callsIn, answersOf}
 use Rattle.trace.proofs.Folds.{answers-long}
+use Rattle.buffer.specs.Buffer.{drained, ready}
+use Rattle.cache.specs.Dcache.{Side}
 use Rattle.machine.specs.Machine.{Machine, memoryOf, storeOf, withCounts, Stepped, steppedFrom}
 use Rattle.reach.specs.Reach.{faulted}
 use Rattle.soundness_test.specs.Formed.{Formed}
 use Rattle.soundness_laws.proofs.ScalarParts.{RegistersAre}
+use Rattle.soundness_laws.proofs.BackingKept.{BackingIs, drained-kept, ready-kept}
+use Rattle.soundness_laws.proofs.Holding.{holding-of}
 use Rattle.soundness_laws.proofs.Reader.{clauses-parts}
 use Rattle.soundness_laws.proofs.TlbKept.{value-low}
 use Rattle.step.specs.Meets.{stateMeets, stateRefusal, refusal}
@@ -38,37 +43,50 @@ use Rattle.step.proofs.StateRefusals.{accepts, state-numbered, refusal-rows}
 use Rattle.terms.specs.Term3.{AllNumbers}
 use Rattle.terms.specs.Corollaries.{All32}
 use Rattle.terms.proofs.Corollaries.{calls-numbers}
-use Rattle.terms.proofs.Answers.{Accessed, of-memory, of-cache, stores, Answers, done-by, call-by-refusal}
+use Rattle.terms.proofs.Answers.{Accessed, of-memory, of-cache, stores, swaps-cached, swaps-memory, Answers, done-by, call-by-refusal}
 use Rattle.printed.specs.Code.{Told}
 use Rattle.answers.specs.Signed.{isSigned, isSignedLoad, TellsAll, Tells}
 use Rattle.answers.proofs.Ranges.{load-told, read-low, refusal-low}
 
 -- ---- an accepted call
 
-module _ (x : Stepped) (f : Formed (x .machine)) (r : RegistersAre (x .machine .cp15 .registers)) where
+-- what an access gets: the bytes of its cache store, and a memory and buffer in range
+record Gets (s : Side) : Type 0 where
+  size : ℕ
+  store-bytes : Bytes (s .cache .store)
+  backing : BackingIs size (s .backing)
+
+-- an access of a width that answers the number of some bytes
+bytes-told : (a : Access) (m : List ℕ) (at : ℕ) (x : Answer) → isWidth (a .width) ≡ true → Bytes m
+    → x ≡ loadAnswer (a .kind) (a .width) (valueAt (a .width) m at) → Told (isSigned (a .kind)) x
+bytes-told a m at x w b e =
+    subst (Told (isSigned (a .kind))) (sym e) (load-told (a .kind) (a .width) (valueAt (a .width) m at) w (value-low (a .width) m at b))
+
+module _ (s : Side) (g : Gets s) (x : Stepped) (f : Formed (x .machine)) (r : RegistersAre (x .machine .cp15 .registers)) where
   -- an access of some width that left a machine of its shape
-  access-told : (a : Access) → isWidth (a .width) ≡ true → Accessed a x → Told (isSigned (a .kind)) (x .answer)
-  access-told a w (of-memory at e) =
-      subst (Told (isSigned (a .kind))) (sym e)
-      (load-told (a .kind) (a .width) (valueAt (a .width) (memoryOf (x .machine)) at) w (value-low (a .width) (memoryOf (x .machine)) at (f .memory-bytes)))
-  access-told a w (of-cache at e) =
-      subst (Told (isSigned (a .kind))) (sym e)
-      (load-told (a .kind) (a .width) (valueAt (a .width) (storeOf (x .machine)) at) w (value-low (a .width) (storeOf (x .machine)) at (f .store-bytes)))
+  access-told : (a : Access) → isWidth (a .width) ≡ true → Accessed s a x → Told (isSigned (a .kind)) (x .answer)
+  access-told a w (of-memory at e) = bytes-told a (memoryOf (x .machine)) at (x .answer) w (f .memory-bytes) e
+  access-told a w (of-cache at e) = bytes-told a (storeOf (x .machine)) at (x .answer) w (f .store-bytes) e
   access-told a w (stores v k e) = subst (λ (y : Kind). Told (isSigned y) (x .answer)) (sym k) (subst (Told false) (sym e) (refl, omega arith))
+  access-told a w (swaps-cached at e) = bytes-told a (s .cache .store) at (x .answer) w (g .store-bytes) e
+  access-told a w (swaps-memory at e) =
+      let b = drained (s .backing) in
+      let k = ready-kept (g .size) b at (a .width) (drained-kept (g .size) (s .backing) (g .backing)) in
+      bytes-told a (ready b at (a .width) .memory) at (x .answer) w (k .memory-bytes) e
 
   -- a call
-  answers-told : (c : Call) → callRefusal c ≡ 0 → Answers c x → Told (isSignedLoad c) (x .answer)
+  answers-told : (c : Call) → callRefusal c ≡ 0 → Answers s c x → Told (isSignedLoad c) (x .answer)
   answers-told (calls.Access a) h y = access-told a (access-accepted a h .0) y
   answers-told (Read t) h e = subst (Told false) (sym e) (refl, read-low (x .machine .cp15 .registers) (t .register) r)
   answers-told (Write t v) h e = subst (Told false) (sym e) (refl, omega arith)
 
 -- a call that is not refused, and leaves a machine of its shape with registers in range
-done-told : (m : Machine) (c : Call) → callRefusal c ≡ 0 → Formed (done m c .machine) → RegistersAre (done m c .machine .cp15 .registers)
-    → Told (isSignedLoad c) (done m c .answer)
+done-told : (m : Machine) (c : Call) → Gets (m .side) → callRefusal c ≡ 0 → Formed (done m c .machine)
+    → RegistersAre (done m c .machine .cp15 .registers) → Told (isSignedLoad c) (done m c .answer)
 unfolding faulted faultSet
-done-told m c h =
+done-told m c g h =
     done-by (λ x. Formed (x .machine) → RegistersAre (x .machine .cp15 .registers) → Told (isSignedLoad c) (x .answer)) m c
-    (λ x y f r. answers-told x f r c h y) (λ t s d va f r. let low = r .fsr in omega arith)
+    (λ x y f r. answers-told (m .side) g x f r c h y) (λ t s d va f r. let low = r .fsr in omega arith)
 
 -- ---- a call
 
@@ -96,10 +114,12 @@ module _ (m : Machine) (c : Call) where
         let z = eqb-true (refusal m c) 0 t in
         let p = state-passed m c z in
         let k = served-kept m c (f p) (accepts m p .is-sound) n in
+        let h = holding-of m (f p) (accepts m p .is-sound) .side in
+        let g : Gets (m .side) = record { size = length (memoryOf m); store-bytes = f p .store-bytes; backing = h .backing } in
         let e = served-done t in
         let r = clauses-parts (served m c .machine) (k .sound) .registers in
         subst (λ (x : Stepped). Told (isSignedLoad c) (x .answer)) (sym e)
-        (done-told (withCounts m (counted (m .counts))) c (call-accepted m c z) (subst (λ (x : Stepped). Formed (x .machine)) e (k .formed))
+        (done-told (withCounts m (counted (m .counts))) c g (call-accepted m c z) (subst (λ (x : Stepped). Formed (x .machine)) e (k .formed))
         (subst (λ (x : Stepped). RegistersAre (x .machine .cp15 .registers)) e r)))
         (λ t.
         let low = refusal-low m c in
@@ -130,7 +150,8 @@ signed-of k p w x v =
     case (eqb k 0) (λ t. let z = eqb-true k 0 t in rw t (sym (ne-eqb k 1 (λ e. absurd (omega arith)))))
     (λ t0. case (eqb k 1) (λ t. rw (t0, t))
     (λ t1. case (eqb k 2) (λ t. rw (t0, t1, t))
-    (λ t2. case (eqb k 3) (λ t. rw (t0, t1, t2, t)) (λ t3. rw (t0, t1, t2, t3)))))
+    (λ t2. case (eqb k 3) (λ t. rw (t0, t1, t2, t))
+    (λ t3. case (eqb k 4) (λ t. rw (t0, t1, t2, t3, t)) (λ t4. rw (t0, t1, t2, t3, t4))))))
 
 -- answers to the calls of a list of numbers, by the numbers
 tells-list : (n : ℕ) (list : List ℕ) (i : ℕ) (ys : List Answer) → TellsAll (callsIn n list i) ys → Tells n list i ys

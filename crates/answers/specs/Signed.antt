@@ -5,7 +5,7 @@ use mathlib.Core.List.{List, [], _∷_}
 use lib.Dec.{eqb}
 use lib.ListN.{getD}
 use Rattle.values.specs.declared.Kind.{Kind}
-use Rattle.values.specs.declared.Kind.the-variants.{Load, SignedLoad, Store}
+use Rattle.values.specs.declared.Kind.the-variants.{Load, SignedLoad, Store, Swap}
 use Rattle.values.specs.declared.Call.{Call}
 use Rattle.values.specs.declared.Call.the-variants.{Read, Write}
 use Rattle.values.specs.declared.Call.the-variants as calls
@@ -17,6 +17,7 @@ abbrev pub isSigned : Kind → Bool
 isSigned Load = false
 isSigned SignedLoad = true
 isSigned (Store v) = false
+isSigned (Swap v) = false
 
 -- an access of that kind
 abbrev pub isSignedLoad : Call → Bool

@@ -5,13 +5,13 @@ use mathlib.Core.Bool.{Bool, true, false, _&&_, _||_}
 use mathlib.Core.Path.{_≡_, refl, _∙_, ap}
 use mathlib.Core.List.{List, [], _∷_, _++_}
 use lib.Dec.{eqb, leb}
-use lib.ListN.{length, drop, length-drop, length-map}
+use lib.ListN.{length, getD, drop, length-drop, length-map}
 use borrow.Author.Tests.{eqb-true, le-leb, lt-leb}
 use Rattle.values.specs.Lists.{any, all}
 use Rattle.values.proofs.Cases.{case, clash, and-left, and-right, and-false, or-left, or-right, or-none}
 use Rattle.trace.specs.Calls.{isCallAt}
 use Rattle.printed.specs.Printed.{lineFeed}
-use Rattle.fields.specs.Lines.{Line, lineFrom, fieldsOf, valueOf, isField, numbersIn, isLine}
+use Rattle.fields.specs.Lines.{Line, lineFrom, fieldsOf, valueOf, isField, numbersIn, isTextCallAt, isLine}
 use Rattle.fields.specs.Parse.{firstLine, sizeOf, decided, parse}
 
 -- what follows a line that has ended does not change it
@@ -65,7 +65,7 @@ pub line-stands : (l : Line) → isLine l ≡ true → Stands l
 unfolding isLine
 line-stands l t =
     let fs = fieldsOf (l .bytes) in
-    let call = isCallAt (numbersIn l) 0 in
+    let call = isTextCallAt (numbersIn l) 0 in
     let short = leb (length (l .bytes) + 1) 64 in
     let a = and-right (l .ended) (short && (eqb (length fs) 5 && (all isField fs && call))) t in
     let b = and-right short (eqb (length fs) 5 && (all isField fs && call)) a in
@@ -74,7 +74,7 @@ line-stands l t =
       has-ended = and-left (l .ended) (short && (eqb (length fs) 5 && (all isField fs && call))) t;
       are-five = eqb-true (length fs) 5 (and-left (eqb (length fs) 5) (all isField fs && call) b);
       are-fields = and-left (all isField fs) call c;
-      is-call = and-right (all isField fs) call c;
+      is-call = and-right (leb (getD (numbersIn l) 0 0) 4) (isCallAt (numbersIn l) 0) (and-right (all isField fs) call c);
     }
 
 -- it has five numbers

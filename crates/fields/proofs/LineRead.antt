@@ -11,17 +11,17 @@ use lib.Seq.{sets, sets-eq, length-take-le, getD-append-add}
 use borrow.Author.Tests.{eqb-true, lt-leb, le-leb}
 use Rattle.values.specs.Lists.{all}
 use Rattle.values.proofs.Cases.{and-left, and-right, and-both, and-false, clash}
-use Rattle.trace.specs.Calls.{isCall, isCallAt}
-use Rattle.fields.specs.Lines.{Line, fieldsOf, valueOf, isField, numbersIn, isLine}
+use Rattle.trace.specs.Calls.{isCall}
+use Rattle.fields.specs.Lines.{Line, fieldsOf, valueOf, isField, numbersIn, isTextCallAt, isLine}
 use Rattle.fields.specs.Parse.{firstLine, sizeOf}
 use Rattle.fields.specs.Code.{LineRead}
 use Rattle.fields.proofs.Scan.{scan, Scanning, scanned-good, scanned-numbers, scanned-size}
 use Rattle.fields.proofs.Means.{fieldsTest, means}
 
 -- a line that ends, has five fields, is short and is a call
-line-is : (l : Line) → isLine l ≡ (fieldsTest 5 l && (leb (length (l .bytes) + 1) 64 && isCallAt (numbersIn l) 0))
+line-is : (l : Line) → isLine l ≡ (fieldsTest 5 l && (leb (length (l .bytes) + 1) 64 && isTextCallAt (numbersIn l) 0))
 unfolding isLine
-line-is l = by (l .ended) (leb (length (l .bytes) + 1) 64) (eqb (length (fieldsOf (l .bytes))) 5) (all isField (fieldsOf (l .bytes))) (isCallAt (numbersIn l) 0)
+line-is l = by (l .ended) (leb (length (l .bytes) + 1) 64) (eqb (length (fieldsOf (l .bytes))) 5) (all isField (fieldsOf (l .bytes))) (isTextCallAt (numbersIn l) 0)
   where
     by : (a b c d e : Bool) → (a && (b && (c && (d && e)))) ≡ (a && (c && d) && (b && e))
     by true true c d e = sym (and-assoc c d e)
@@ -36,13 +36,14 @@ laid-at l vs i j h k =
     ∙ ap (λ (n : ℕ). getD (take i l ++ (vs ++ drop (i + length vs) l)) (n + j) 0) (sym e)
     ∙ getD-append-add (take i l) (vs ++ drop (i + length vs) l) j 0 ∙ List·getD-append vs (drop (i + length vs) l) 0 j k
 
-call-laid : (l vs : List ℕ) (k : ℕ) → k * 5 + 5 ≤ length l → length vs ≡ 5 → isCallAt (sets l (k * 5) vs) k ≡ isCallAt vs 0
+call-laid : (l vs : List ℕ) (k : ℕ) → k * 5 + 5 ≤ length l → length vs ≡ 5 → isTextCallAt (sets l (k * 5) vs) k ≡ isTextCallAt vs 0
 call-laid l vs k h e =
     let a : getD (sets l (k * 5) vs) (k * 5) 0 ≡ getD vs 0 0 =
     ap (λ (n : ℕ). getD (sets l (k * 5) vs) n 0) (sym (add-zero (k * 5))) ∙ laid-at l vs (k * 5) 0 (omega arith) (omega arith)
     in
     let b : getD (sets l (k * 5) vs) (k * 5 + 1) 0 ≡ getD vs 1 0 = laid-at l vs (k * 5) 1 (omega arith) (omega arith) in
-    ap (λ (n : ℕ). isCall n (getD (sets l (k * 5) vs) (k * 5 + 1) 0)) a ∙ ap (isCall (getD vs 0 0)) b
+    ap (λ (n : ℕ). leb n 4 && isCall n (getD (sets l (k * 5) vs) (k * 5 + 1) 0)) a
+    ∙ ap (λ (n : ℕ). leb (getD vs 0 0) 4 && isCall (getD vs 0 0) n) b
 
 module _ (text calls₀ : List ℕ) (from k : ℕ) (calls : List ℕ) (front : take (k * 5) calls ≡ take (k * 5) calls₀) where
   abbrev l : Line
@@ -80,7 +81,7 @@ module _ (text calls₀ : List ℕ) (from k : ℕ) (calls : List ℕ) (at i : �
       (and-left (eqb (length (fieldsOf (first .bytes))) 5) (all isField (fieldsOf (first .bytes)))
       (and-right (first .ended) (eqb (length (fieldsOf (first .bytes))) 5 && all isField (fieldsOf (first .bytes))) test-read))
 
-  line-then : isLine first ≡ (leb (length (first .bytes) + 1) 64 && isCallAt (numbersIn first) 0)
+  line-then : isLine first ≡ (leb (length (first .bytes) + 1) 64 && isTextCallAt (numbersIn first) 0)
   line-then = line-is first ∙ rw test-read
 
   pub read-long : 64 < at - from → LineRead (drop from text) calls₀ calls k 0
@@ -89,19 +90,19 @@ module _ (text calls₀ : List ℕ) (from k : ℕ) (calls : List ℕ) (at i : �
       departs-so text calls₀ from k calls (g .front) (line-then ∙ rw (lt-leb (length (first .bytes) + 1) 64 (omega arith)))
 
   module _ (room : k * 5 + 5 ≤ length calls₀) where
-    call-read : isCallAt calls k ≡ isCallAt (numbersIn first) 0
-    call-read = ap (λ (x : List ℕ). isCallAt x k) calls-read ∙ call-laid calls₀ (numbersIn first) k room five
+    call-read : isTextCallAt calls k ≡ isTextCallAt (numbersIn first) 0
+    call-read = ap (λ (x : List ℕ). isTextCallAt x k) calls-read ∙ call-laid calls₀ (numbersIn first) k room five
 
-    pub read-no-call : isCallAt calls k ≡ false → LineRead (drop from text) calls₀ calls k 0
+    pub read-no-call : isTextCallAt calls k ≡ false → LineRead (drop from text) calls₀ calls k 0
     read-no-call z =
         departs-so text calls₀ from k calls (g .front)
-        (line-then ∙ and-false (leb (length (first .bytes) + 1) 64) (isCallAt (numbersIn first) 0) (sym call-read ∙ z))
+        (line-then ∙ and-false (leb (length (first .bytes) + 1) 64) (isTextCallAt (numbersIn first) 0) (sym call-read ∙ z))
 
-    pub read-whole : at - from ≤ 64 → isCallAt calls k ≡ true → LineRead (drop from text) calls₀ calls k (at - from)
+    pub read-whole : at - from ≤ 64 → isTextCallAt calls k ≡ true → LineRead (drop from text) calls₀ calls k (at - from)
     read-whole w y =
         let e = size-read in
         let t : isLine first ≡ true =
-        line-then ∙ and-both (leb (length (first .bytes) + 1) 64) (isCallAt (numbersIn first) 0) (le-leb (length (first .bytes) + 1) 64 (omega arith))
+        line-then ∙ and-both (leb (length (first .bytes) + 1) 64) (isTextCallAt (numbersIn first) 0) (le-leb (length (first .bytes) + 1) 64 (omega arith))
         (sym call-read ∙ y)
         in
         let s : at - from ≡ sizeOf first = omega arith in

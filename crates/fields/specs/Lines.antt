@@ -57,15 +57,15 @@ isField field = leb 1 (length field) && (all isDigit field && leb (valueOf field
 abbrev pub numbersIn : Line → List ℕ
 numbersIn l = map valueOf (fieldsOf (l .bytes))
 
--- the numbers are a call of a text: "call (0 load, 1 signed load, 2 store, 3 CP15 read, 4 CP15 write), privileged (1 or 0)"; no text has a swap
-abbrev pub isTextCall : List ℕ → Bool
-isTextCall numbers = leb (getD numbers 0 0) 4 && isCallAt numbers 0
+-- call i of a list is one of a text: "call (0 load, 1 signed load, 2 store, 3 CP15 read, 4 CP15 write), privileged (1 or 0)"; no text has a swap
+abbrev pub isTextCallAt : List ℕ → ℕ → Bool
+isTextCallAt list i = leb (getD list (i * 5) 0) 4 && isCallAt list i
 
 -- A line that does not depart: a line feed ends it, it "has at most 64 bytes with the line feed", it has five fields, and they are a call.
 unfoldable pub isLine : Line → Bool
 isLine l =
     l .ended && (leb (length (l .bytes) + 1) 64 && (eqb (length (fieldsOf (l .bytes))) 5 && (all isField (fieldsOf (l .bytes))
-    && isTextCall (numbersIn l))))
+    && isTextCallAt (numbersIn l) 0)))
 
 -- the calls of lines, up to one that departs
 unfoldable pub callsOf : List Line → List Call

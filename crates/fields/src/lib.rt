@@ -4,6 +4,7 @@ ghost use mathlib.Core.Bool.{cond, _||_};
 ghost use Prim.Native.Nat.{_+_, _-_, _*_, _≤_, _<_};
 ghost use lib.Dec.{leb};
 ghost use lib.ListN.{length, drop};
+ghost use Rattle.fields.specs.Lines as lines;
 ghost use Rattle.fields.specs.Parse as parses;
 ghost use Rattle.fields.specs.Code as code;
 
@@ -104,6 +105,17 @@ fn behind(i: usize) -> u8
     if i < 4 { COMMA } else { FEED }
 }
 
+// Whether the five numbers of entry k are a call that a text has.
+fn is_text_call_at(calls: &[u32], k: usize) -> bool
+    requires { ⌜ k * 5 + 5 ≤ length (now calls) ⌝ }
+    ensures { λ r. ⌜ r ≡ lines.isTextCallAt (now (calls .entry)) k ⌝ }
+{
+    if calls[k * 5] <= LAST_CALL {
+        return trace::is_call_at(calls, k);
+    }
+    false
+}
+
 // The line at a place, read as call k of a list of five numbers a call: its size, or 0 where it departs.
 fn read_line(text: &[u8], from: usize, calls: &mut [u32], k: usize) -> usize
     requires { ⌜ (from ≤ length (now text)) × (k * 5 + 5 ≤ length (now calls)) ⌝ }
@@ -125,10 +137,7 @@ fn read_line(text: &[u8], from: usize, calls: &mut [u32], k: usize) -> usize
     if at - from > LONGEST {
         return 0;
     }
-    if calls[k * 5] > LAST_CALL {
-        return 0;
-    }
-    if trace::is_call_at(calls, k) {
+    if is_text_call_at(calls, k) {
         return at - from;
     }
     0

@@ -3,7 +3,7 @@ use Prim.Native.Nat.{ℕ}
 use mathlib.Core.Bool.{Bool, true, false, cond}
 use mathlib.Core.Path.{_≡_, refl, ap}
 use Rattle.values.specs.declared.Kind.{Kind}
-use Rattle.values.specs.declared.Kind.the-variants.{Load, SignedLoad, Store}
+use Rattle.values.specs.declared.Kind.the-variants.{Load, SignedLoad, Store, Swap}
 use Rattle.values.specs.declared.Access.{Access}
 use Rattle.values.specs.declared.Search.{Search}
 use Rattle.values.specs.declared.Search.the-variants.{At, Nothing}
@@ -19,6 +19,7 @@ use Rattle.machine.specs.Machine.{Machine, physicalOf, Stepped, steppedFrom, an
 use Rattle.reach.specs.Reach.{decision, committed, faulted}
 use Rattle.loads.specs.Loads.{loadHit, loadFill, loadUncached, loadMiss, loadFound, load}
 use Rattle.stores.specs.Stores.{storeHit, storeBuffered, storeDirect, storeMiss, storeFound, store}
+use Rattle.swaps.specs.Swaps.{swapHit, swapDirect, swapMiss, swapFound, swap}
 use Rattle.access.specs.Access.{passed, accessAt, access}
 use Rattle.i_bit.specs.BitI.{machineWithoutI}
 use Rattle.i_bit.proofs.Tests.{fills-without, buffers-without, decision-without}
@@ -70,11 +71,21 @@ module _ (m : Machine) (a : Access) where
     store-found-without v (At i) = refl
     store-found-without v Nothing = store-miss-without v
 
+    swap-miss-without : (v : ℕ) → Without (swapMiss (machineWithoutI m) a v p) (swapMiss m a v p)
+    unfolding swapMiss swapDirect loadUncached storeDirect
+    swap-miss-without v = chosen Without (aborts (physicalOf m) (p .address)) _ _ _ _ (fault-without (otherStatus p) (p .domain)) refl
+
+    swap-found-without : (v : ℕ) (x : Search) → Without (swapFound (machineWithoutI m) a v p x) (swapFound m a v p x)
+    unfolding swapHit loadHit storeHit
+    swap-found-without v (At i) = refl
+    swap-found-without v Nothing = swap-miss-without v
+
     passed-without : (k : Kind) → Without (passed (machineWithoutI m) a p k) (passed m a p k)
-    unfolding load store
+    unfolding load store swap
     passed-without Load = load-found-without (find (m .side .cache .lines) (cleared a))
     passed-without SignedLoad = load-found-without (find (m .side .cache .lines) (cleared a))
     passed-without (Store v) = store-found-without v (find (m .side .cache .lines) (cleared a))
+    passed-without (Swap v) = swap-found-without v (find (m .side .cache .lines) (cleared a))
 
   at-without : (c : Checked) → Without (accessAt (machineWithoutI m) a c) (accessAt m a c)
   unfolding accessAt

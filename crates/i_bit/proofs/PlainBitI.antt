@@ -7,7 +7,7 @@ use Rattle.values.specs.Control.{kept}
 use Rattle.values.specs.Registers.{withControl}
 use Rattle.values.specs.declared.Registers.{Registers}
 use Rattle.values.specs.declared.Kind.{Kind}
-use Rattle.values.specs.declared.Kind.the-variants.{Load, SignedLoad, Store}
+use Rattle.values.specs.declared.Kind.the-variants.{Load, SignedLoad, Store, Swap}
 use Rattle.values.specs.declared.Access.{Access}
 use Rattle.values.specs.declared.Transfer.{Transfer}
 use Rattle.values.specs.declared.Status.{Status}
@@ -27,7 +27,7 @@ use Rattle.translation.specs.declared.Checked.the-variants.{Passed, Denied}
 use Rattle.registers.specs.Registers.{writtenOf}
 use Rattle.trace.specs.Fold.{answersOf, finalOf}
 use Rattle.soundness_laws.proofs.RegistersKept.{kept-twice}
-use Rattle.plain.specs.Plain.{Plain, withRegisters, PlainStepped, plainStepped, plainFaulted, plainPhysical, plainReach, plainLoad, plainStore, plainPassed}
+use Rattle.plain.specs.Plain.{Plain, withRegisters, PlainStepped, plainStepped, plainFaulted, plainPhysical, plainReach, plainLoad, plainStore, plainSwap, plainPassed}
 use Rattle.plain.specs.Plain.{plainAt, plainAccess, plainRead, plainWrite, plainDone, plainRefusal, counted, plainly, plainNext, plainAnswered}
 use Rattle.plain.specs.Plain.{plainAnswers, plainFinal}
 use Rattle.i_bit.specs.BitI.{numberWithoutI, registersWithoutI, answerWithoutI, answersWithoutI, AlikeAnswers, AllAlike}
@@ -67,10 +67,19 @@ module _ (p : Plain) (a : Access) where
         (chosen (Without p) (buffers (p .registers) l) _ _ _ _ (refl, refl) (fault-without (otherStatus l) (l .domain)))
         (refl, refl))
 
+    swap-without : (v : ℕ) → Without p (plainSwap (plainWithoutI p) a v l) (plainSwap p a v l)
+    unfolding plainSwap
+    swap-without v =
+        let loads = load-without in
+        let stores = store-without v in
+        chosen (Without p) (aborts (plainPhysical p) (l .address)) _ _ _ _ (fault-without (otherStatus l) (l .domain))
+        (rw (stores .0, loads .0), stores .1)
+
     passed-without : (k : Kind) → Without p (plainPassed (plainWithoutI p) a l k) (plainPassed p a l k)
     passed-without Load = load-without
     passed-without SignedLoad = load-without
     passed-without (Store v) = store-without v
+    passed-without (Swap v) = swap-without v
 
   at-without : (c : Checked) → Without p (plainAt (plainWithoutI p) a c) (plainAt p a c)
   unfolding plainAt

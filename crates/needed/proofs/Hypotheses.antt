@@ -9,7 +9,7 @@ use lib.ListN.{getD, getD-replicate}
 use borrow.Author.Tests.{ltb-true}
 use Rattle.values.specs.Lists.{all}
 use Rattle.values.specs.declared.Kind.{Kind}
-use Rattle.values.specs.declared.Kind.the-variants.{Load, SignedLoad, Store}
+use Rattle.values.specs.declared.Kind.the-variants.{Load, SignedLoad, Store, Swap}
 use Rattle.values.specs.declared.Call.{Call}
 use Rattle.values.specs.declared.Call.the-variants.{Read, Write}
 use Rattle.values.specs.declared.Call.the-variants as calls
@@ -30,6 +30,7 @@ abbrev carries : Kind → Bool
 carries Load = true
 carries SignedLoad = true
 carries (Store v) = is32 v
+carries (Swap v) = is32 v
 
 abbrev carriesAll : Call → Bool
 carriesAll (calls.Access a) = is32 (a .address .0) && carries (a .kind)
@@ -51,6 +52,7 @@ carried : (k : Kind) → carries k ≡ true → Carries32 k
 carried Load e = tt
 carried SignedLoad e = tt
 carried (Store v) e = ltb-true v 0x100000000 e
+carried (Swap v) e = ltb-true v 0x100000000 e
 
 numbers : (c : Call) → carriesAll c ≡ true → Numbers c
 numbers (calls.Access a) e = (

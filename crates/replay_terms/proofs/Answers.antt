@@ -1,16 +1,16 @@
 -- How many lines are printed, where 13 stands, and what a served store or write answers.
 use Prim.Native.Nat.{ℕ, _+_, _≤_}
 use native.Mathlib.Omega.{arith}
-use mathlib.Core.Bool.{true, false, cond}
+use mathlib.Core.Bool.{true, false, cond, not, _&&_}
 use mathlib.Core.Path.{_≡_, refl, sym, _∙_, ap, subst}
 use mathlib.Core.List.{List, [], _∷_}
 use lib.Dec.{eqb}
 use lib.ListN.{length}
 use borrow.Author.Tests.{eqb-true, eqb-false}
 use Rattle.values.specs.Counts.{counted}
-use Rattle.values.specs.Kinds.{isStore}
+use Rattle.values.specs.Kinds.{isStore, isSwap}
 use Rattle.values.specs.declared.Kind.{Kind}
-use Rattle.values.specs.declared.Kind.the-variants.{Load, SignedLoad, Store}
+use Rattle.values.specs.declared.Kind.the-variants.{Load, SignedLoad, Store, Swap}
 use Rattle.values.specs.declared.Access.{Access}
 use Rattle.values.specs.declared.Call.{Call}
 use Rattle.values.specs.declared.Call.the-variants.{Read, Write}
@@ -125,14 +125,15 @@ module _ (m : Machine) (a : Access) (v : ℕ) (p : Place) where
   store-found-zero Nothing = store-miss-zero
 
 -- an access whose translation and rights pass
-passed-zero : (m : Machine) (a : Access) (p : Place) (k : Kind) → isStore k ≡ true → Zero (passed m a p k)
+passed-zero : (m : Machine) (a : Access) (p : Place) (k : Kind) → (isStore k && not (isSwap k)) ≡ true → Zero (passed m a p k)
 unfolding store
 passed-zero m a p Load s = clash {b = false} s refl
 passed-zero m a p SignedLoad s = clash {b = false} s refl
 passed-zero m a p (Store v) s = store-found-zero m a v p (find (m .side .cache .lines) (cleared a))
+passed-zero m a p (Swap v) s = clash {b = false} s refl
 
 -- an access, by what was decided
-at-zero : (m : Machine) (a : Access) (c : Checked) → isStore (a .kind) ≡ true → Zero (accessAt m a c)
+at-zero : (m : Machine) (a : Access) (c : Checked) → (isStore (a .kind) && not (isSwap (a .kind))) ≡ true → Zero (accessAt m a c)
 unfolding accessAt faulted
 at-zero m a (Denied s d) t = λ e. absurd (omega arith)
 at-zero m a (Passed p) t = passed-zero m a p (a .kind) t

@@ -1,10 +1,10 @@
 -- What the replay prints: the paper's example, how many lines, where 13 stands, what stores and writes answer, and the plain machine's lines.
 use Prim.Native.Nat.{ℕ, _≤_}
-use mathlib.Core.Bool.{Bool, true, false, cond}
+use mathlib.Core.Bool.{Bool, true, false, cond, not, _&&_}
 use mathlib.Core.Path.{_≡_}
 use mathlib.Core.List.{List, [], _∷_, _++_}
 use lib.ListN.{length}
-use Rattle.values.specs.Kinds.{isStore}
+use Rattle.values.specs.Kinds.{isStore, isSwap}
 use Rattle.values.specs.declared.Call.{Call}
 use Rattle.values.specs.declared.Call.the-variants.{Read, Write}
 use Rattle.values.specs.declared.Call.the-variants as calls
@@ -72,7 +72,7 @@ ThirteenLast = (m : Machine) (lines : List Line) → ThirteenOnce m lines
 
 -- a store or a CP15 write
 abbrev pub storesOrWrites : Call → Bool
-storesOrWrites (calls.Access a) = isStore (a .kind)
+storesOrWrites (calls.Access a) = isStore (a .kind) && not (isSwap (a .kind))
 storesOrWrites (Read t) = false
 storesOrWrites (Write t v) = true
 

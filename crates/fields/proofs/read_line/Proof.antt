@@ -107,8 +107,8 @@ returns-2 c = let at-loop = c .before .before in
       search needs,
     )
 
-is-call-at-requires : tie.Need-is-call-at-requires Inv-loop μ-loop
-is-call-at-requires c κs = let at-loop = c .before .before .before in
+is-text-call-at-requires : tie.Need-is-text-call-at-requires Inv-loop μ-loop
+is-text-call-at-requires c κs = let at-loop = c .before .before .before in
     let l = at-loop .loop in
     let a = at-loop .before .before .before .args in
     let long = l .inv .long in
@@ -134,7 +134,7 @@ returns-3 c = let else2 = c .before .before .before in
     let l = at-loop .loop in
     let a = at-loop .before .before .before .args in (
       read-whole (now (a .text)) (now (a .calls)) (a .from) (a .k) (l .calls) (l .at) (l .i) (l .inv) (after-loop .loop-test .left) (search needs)
-          (else2 .if2 .left) (sym (c .before .is-call-at .ensures) ∙ c .if3 .taken),
+          (else2 .if2 .left) (sym (c .before .is-text-call-at .ensures) ∙ c .if3 .taken),
       search needs,
     )
 
@@ -150,7 +150,7 @@ returns-4 c = let after-loop = c .before .before .before .before in
     let l = at-loop .loop in
     let a = at-loop .before .before .before .args in (
       read-no-call (now (a .text)) (now (a .calls)) (a .from) (a .k) (l .calls) (l .at) (l .i) (l .inv) (after-loop .loop-test .left) (search needs)
-          (sym (c .before .is-call-at .ensures) ∙ c .if3 .left),
+          (sym (c .before .is-text-call-at .ensures) ∙ c .if3 .left),
       search needs,
     )
 
@@ -176,7 +176,7 @@ read-line-spec =
     sub-if2
     same-length-2
     returns-2
-    is-call-at-requires
+    is-text-call-at-requires
     sub-result
     same-length-3
     returns-3
