@@ -48,7 +48,7 @@ static void print_call(const struct caller *who, const uint32_t *c) {
     if (c[0] == SA110_STORE || c[0] == SA110_WRITE || c[0] == SA110_SWAP) {
         sprintf(text + at, " = %08x", c[4]);
     }
-    printf("%-10s  %-30s  ", who->name, text);
+    printf("%-10s  %-31s  ", who->name, text);
 }
 
 /* Prints an answer; a swap's value is the old one. */
