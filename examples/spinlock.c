@@ -4,8 +4,8 @@
  * list is made on the plain machine and in one run, and compared.
  *
  * The list keeps document 01's rules, so both machines answer the same, and after the cleans and the drain at the end memory is the same (term 3): each
- * physical line is reached through one virtual line (R2), nothing is flushed out of the Dcache (R3), the page tables are cleaned and drained before the
- * TLB flush that comes before the first translated access (R4, R5), and there are no large pages (R6). */
+ * physical line is reached through one virtual line, which reaches no other (R2), nothing is flushed out of the Dcache (R3), the page tables are cleaned
+ * and drained before the TLB flush that comes before the first translated access (R4, R5), and there are no large pages (R6). */
 #include "sa110.h"
 #include <stdio.h>
 #include <string.h>
@@ -248,7 +248,7 @@ static int in_one_run(void) {
     return same;
 }
 
-/* Prints the locks and counters as they are in memory; gives whether no addition was lost. */
+/* Prints locks and counters as they are in memory, where 00220000 lies at 20000 and 00300000 at 30000; gives whether no addition was lost. */
 static int in_memory(void) {
     uint32_t word, words, bytes;
     memcpy(&word, memory + 0x20000, sizeof word);
