@@ -1,8 +1,9 @@
 /* Damaged input from C: random and damaged states and replays, wrong lengths, numbers that are no call, malformed texts.
  * Each lent thing lies against a page that cannot be read or written, or in a block of its own from malloc for valgrind to watch, so that an
  * access outside ends the program. Checked are: a start writes the whole state and record; the answer is one of document 01's; a refused call, a
- * look and a soundness test change nothing; a state that was sound stays so; a run of the list answers and leaves the same. A replay that is refused
- * changes nothing but its last two fields; any other prints and leaves what a call for each line gives, in parts and slices of any length. */
+ * look and a soundness test change nothing; a state that was sound stays so; a run of the list answers and leaves the same. A swap answers what a load
+ * answers before it, and a load after it answers the value swapped in. A replay that is refused changes nothing but its last two fields; any other prints
+ * and leaves what a call for each line gives, in parts and slices of any length. */
 #define _GNU_SOURCE
 #include "sa110.h"
 #include <stdio.h>
@@ -146,19 +147,28 @@ static size_t memory_length(void) {
     }
 }
 
-static uint32_t address(void) { return chance(8) ? word() : below(5) << 20 | below(4) << 12 | below(chance(2) ? 256 : 4096); }
+/* An address, often the last one again, so that lines are hit. */
+static uint32_t address(void) {
+    static uint32_t last;
+    if (!chance(3)) {
+        last = chance(8) ? word() : below(5) << 20 | below(4) << 12 | below(chance(2) ? 256 : 4096);
+    }
+    return last;
+}
 
 /* Five numbers, mostly a call. */
 static void numbers(uint32_t *c) {
     static const uint32_t pairs[] = {7, 6, 5, SA110_PAIR(1, 6), SA110_PAIR(1, 10), SA110_PAIR(4, 10)};
     static const uint32_t controls[] = {0, 1, 9, 13, 15, 0x30D, 0x10D, 0x20F};
-    uint32_t kind = chance(200) ? 5 + word() % 9 : chance(3) ? 3 + below(2) : below(3);
+    static const uint32_t accesses[] = {SA110_LOAD, SA110_SIGNED_LOAD, SA110_STORE, SA110_SWAP};
+    uint32_t kind = chance(200) ? 6 + word() % 9 : chance(3) ? 3 + below(2) : accesses[below(4)];
+    int access = kind != SA110_READ && kind != SA110_WRITE;
     c[0] = kind;
     c[1] = chance(200) ? word() : !chance(6);
-    c[2] = kind < 3 ? (chance(30) ? word() % 9 : 1u << below(3)) : chance(20) ? word() % 20 : 1 + below(8);
-    c[3] = kind < 3 ? address() : chance(20) ? word() : pairs[below(6)];
+    c[2] = access ? (chance(30) ? word() % 9 : kind == SA110_SWAP ? 1u << 2 * below(2) : 1u << below(3)) : chance(20) ? word() % 20 : 1 + below(8);
+    c[3] = access ? address() : chance(20) ? word() : pairs[below(6)];
     c[4] = word();
-    if (kind == SA110_STORE && c[2] < 4 && !chance(20)) {
+    if ((kind == SA110_STORE || kind == SA110_SWAP) && c[2] < 4 && !chance(20)) {
         c[4] &= (1u << 8 * c[2]) - 1;
     }
     if (kind == SA110_WRITE && !chance(8)) {
@@ -236,11 +246,28 @@ static void damage(struct machine *m) {
     }
 }
 
-static uint64_t served, faults[16], refused[13], none;
+static uint64_t served, faults[16], refused[13], none, swaps, swap_hits, swap_faults[16], swaps_refused;
+
+/* Notes a swap's answer. */
+static void note_swap(uint64_t answer, uint32_t width) {
+    uint32_t kind = sa110_kind(answer), status = sa110_status(answer);
+    if (kind != SA110_REFUSED && width != 1 && width != 4) {
+        fail("a swap of another width than 1 and 4");
+    }
+    if (kind == SA110_FAULT && (status == SA110_FILL_SECTION || status == SA110_FILL_PAGE)) {
+        fail("a swap faults on a line fill");
+    }
+    swaps += kind == SA110_SERVED;
+    swap_faults[status] += kind == SA110_FAULT;
+    swaps_refused += kind == SA110_REFUSED && sa110_value(answer) == SA110_REFUSED_WIDTH && width == 2;
+}
 
 /* Notes an answer; gives whether the call changes nothing. */
 static int note(uint64_t answer, const uint32_t *c) {
     uint32_t value = sa110_value(answer);
+    if (c[0] == SA110_SWAP && sa110_kind(answer) != SA110_NO_CALL) {
+        note_swap(answer, c[2]);
+    }
     switch (sa110_kind(answer)) {
     case SA110_SERVED:
         served++;
@@ -258,7 +285,7 @@ static int note(uint64_t answer, const uint32_t *c) {
         refused[value]++;
         return 1;
     default:
-        if (answer != (uint64_t)SA110_NO_CALL << 32 || (c[0] <= 4 && c[1] <= 1)) {
+        if (answer != (uint64_t)SA110_NO_CALL << 32 || (c[0] <= SA110_SWAP && c[1] <= 1)) {
             fail("an answer of no known kind");
         }
         none++;
@@ -288,8 +315,45 @@ static void look(struct machine *m) {
     drop(&before);
 }
 
+static uint64_t call(struct machine *m, const uint32_t *c) {
+    return sa110_call(state(m), cp15(m), m->memory.at, m->memory.length, m->store.at, m->store.length, c[0], c[1], c[2], c[3], c[4]);
+}
+
+/* Loads what a swap names, and checks the value; but not where the load's line fill sends out halves, which may be of the same physical line. */
+static void load_of(struct machine *m, const uint32_t *swap, uint64_t value) {
+    const uint32_t load[SA110_FIELDS] = {SA110_LOAD, swap[1], swap[2], swap[3], 0};
+    uint32_t halves = state(m)->counts.halves;
+    uint64_t answer = call(m, load);
+    if (answer != value && state(m)->counts.halves == halves && answer != ((uint64_t)SA110_REFUSED << 32 | SA110_REFUSED_COUNT)) {
+        fail("a load before or after a swap answers something else");
+    }
+}
+
+/* Makes a call and checks it; gives its answer. */
+static uint64_t one_call(struct machine *m, const uint32_t *c) {
+    struct machine before = machine_of(m);
+    int was_sound = sound(m);
+    uint64_t answer = call(m, c);
+    if (note(answer, c)) {
+        if (!same(m, &before)) {
+            fail("a refused call changes something");
+        }
+    } else if (!was_sound || !sound(m)) {
+        fail("a call that is not refused had or leaves an unsound state");
+    }
+    if (c[0] == SA110_SWAP && sa110_kind(answer) == SA110_SERVED) {
+        struct machine after = machine_of(m);
+        swap_hits += state(m)->counts.hits != state(&before)->counts.hits;
+        load_of(&before, c, answer);
+        load_of(&after, c, c[4]);
+        drop(&after);
+    }
+    drop(&before);
+    return answer;
+}
+
 static void one_case(void) {
-    struct machine m = some_machine(), r, before;
+    struct machine m = some_machine(), r;
     struct block calls, answers;
     uint64_t codes[MOST];
     size_t i, n = below(MOST + 1), stop = n;
@@ -299,19 +363,9 @@ static void one_case(void) {
     memset(calls.at, 0, calls.length);
     for (i = 0; i < n; i++) {
         uint32_t *c = (uint32_t *)calls.at + i * SA110_FIELDS;
-        int was_sound = sound(&m);
         numbers(c);
         look(&m);
-        before = machine_of(&m);
-        codes[i] = sa110_call(state(&m), cp15(&m), m.memory.at, m.memory.length, m.store.at, m.store.length, c[0], c[1], c[2], c[3], c[4]);
-        if (note(codes[i], c)) {
-            if (!same(&m, &before)) {
-                fail("a refused call changes something");
-            }
-        } else if (!was_sound || !sound(&m)) {
-            fail("a call that is not refused had or leaves an unsound state");
-        }
-        drop(&before);
+        codes[i] = one_call(&m, c);
         if (sa110_kind(codes[i]) == SA110_NO_CALL) {
             stop = i;
             break;
@@ -353,13 +407,16 @@ static int same_replay(const struct sa110_replay *a, const struct sa110_replay *
     return sa110_same_state(&a->state, &b->state) && memcmp((const char *)a + from, (const char *)b + from, to - from) == 0;
 }
 
-/* Writes a line of a text, mostly a call; now and then it departs from the form. */
+/* Writes a line of a text, mostly a call; now and then it departs from the form, as a swap does. */
 static size_t some_line(uint8_t *at) {
     static const char *const others[] = {"", "0", "0,1,4,0", "0,1,4,0,0,0", "0,1,4,0,4294967296", "5,1,4,0,0", "0,2,4,0,0", "0,1,4,,0", "0,1,4,0,-1",
                                          " 0,1,4,0,0", "0,1,4,0,0\r", "0,1,4,0,", ",1,4,0,0"};
     uint32_t c[SA110_FIELDS];
     size_t i, n = 0;
     numbers(c);
+    if (c[0] == SA110_SWAP && !chance(20)) {
+        c[0] = SA110_STORE;
+    }
     if (chance(40)) {
         n = (size_t)sprintf((char *)at, "%s", others[below(sizeof others / sizeof *others)]);
     } else {
@@ -416,7 +473,7 @@ static size_t expect(struct machine *m, uint64_t line, const uint8_t *text, size
             malformed++;
             return n + print_line(out + n, line, SA110_REFUSED, SA110_REFUSED_LINE, 0);
         }
-        uint64_t a = sa110_call(state(m), cp15(m), m->memory.at, m->memory.length, m->store.at, m->store.length, c[0], c[1], c[2], c[3], c[4]);
+        uint64_t a = call(m, c);
         n += print_line(out + n, line, sa110_kind(a), sa110_value(a), c[0] == SA110_SIGNED_LOAD && sa110_kind(a) == SA110_SERVED);
         replayed++;
         text = end + 1;
@@ -558,10 +615,38 @@ static void one_replay(void) {
     drop(&before);
 }
 
+/* Prints what was met; gives how much was not. */
+static uint32_t report(uint64_t cases) {
+    uint32_t i, missing = 0;
+    printf("cases %llu, served %llu, no call %llu\nrefused by 1 to 12:", (unsigned long long)cases, (unsigned long long)served,
+           (unsigned long long)none);
+    for (i = 1; i <= 12; i++) {
+        printf(" %llu", (unsigned long long)refused[i]);
+        missing += refused[i] == 0;
+    }
+    printf("\nfaults by status 1, 4 to 15:");
+    for (i = 1; i <= 15; i++) {
+        if (i != 2 && i != 3) {
+            printf(" %llu", (unsigned long long)faults[i]);
+            missing += faults[i] == 0;
+        }
+    }
+    printf("\nswaps served %llu, hits among them %llu, outside memory by status 8 and 10 %llu %llu, of width 2 refused by 6 %llu",
+           (unsigned long long)swaps, (unsigned long long)swap_hits, (unsigned long long)swap_faults[SA110_OTHER_SECTION],
+           (unsigned long long)swap_faults[SA110_OTHER_PAGE], (unsigned long long)swaps_refused);
+    missing += swap_hits == 0 || swap_hits == swaps || swap_faults[SA110_OTHER_SECTION] == 0 || swap_faults[SA110_OTHER_PAGE] == 0 || swaps_refused == 0;
+    printf("\nlooks nowhere, in the cache store, in memory: %llu %llu %llu\n", (unsigned long long)looks[0], (unsigned long long)looks[1],
+           (unsigned long long)looks[2]);
+    missing += looks[0] == 0 || looks[1] == 0 || looks[2] == 0;
+    printf("calls of a replay %llu, refused by 3 %llu, lines %llu, malformed ones %llu\n", (unsigned long long)replays,
+           (unsigned long long)replays_refused, (unsigned long long)replayed, (unsigned long long)malformed);
+    missing += replays_refused == 0 || malformed == 0;
+    return missing;
+}
+
 int main(int argc, char **argv) {
     uint64_t cases = 0, i;
     char *end = NULL;
-    uint32_t missing = 0;
     if (argc == 3) {
         seed = strtoull(argv[1], &end, 10);
         if (*argv[1] != 0 && *end == 0) {
@@ -576,27 +661,8 @@ int main(int argc, char **argv) {
         one_case();
         one_replay();
     }
-    printf("cases %llu, served %llu, no call %llu\nrefused by 1 to 12:", (unsigned long long)cases, (unsigned long long)served,
-           (unsigned long long)none);
-    for (i = 1; i <= 12; i++) {
-        printf(" %llu", (unsigned long long)refused[i]);
-        missing += refused[i] == 0;
-    }
-    printf("\nfaults by status 1, 4 to 15:");
-    for (i = 1; i <= 15; i++) {
-        if (i != 2 && i != 3) {
-            printf(" %llu", (unsigned long long)faults[i]);
-            missing += faults[i] == 0;
-        }
-    }
-    printf("\nlooks nowhere, in the cache store, in memory: %llu %llu %llu\n", (unsigned long long)looks[0], (unsigned long long)looks[1],
-           (unsigned long long)looks[2]);
-    missing += looks[0] == 0 || looks[1] == 0 || looks[2] == 0;
-    printf("calls of a replay %llu, refused by 3 %llu, lines %llu, malformed ones %llu\n", (unsigned long long)replays,
-           (unsigned long long)replays_refused, (unsigned long long)replayed, (unsigned long long)malformed);
-    missing += replays_refused == 0 || malformed == 0;
-    if (missing > 0 && cases >= 2000) {
-        fail("not every refusal, status, look and end of a replay was met");
+    if (report(cases) > 0 && cases >= 2000) {
+        fail("not every refusal, status, swap, look and end of a replay was met");
     }
     printf("damaged: ok\n");
     return 0;

@@ -18,7 +18,7 @@ static uint32_t list[CALLS * SA110_FIELDS];
 static uint64_t answers[CALLS];
 static size_t made;
 
-static const char *const names[] = {"load", "signed", "store", "read", "write"};
+static const char *const names[] = {"load", "signed", "store", "read", "write", "swap"};
 
 /* Makes a call, prints it with its answer, and keeps both. */
 static void call(uint32_t kind, uint32_t privileged, uint32_t n, uint32_t a, uint32_t v) {
@@ -33,7 +33,7 @@ static void call(uint32_t kind, uint32_t privileged, uint32_t n, uint32_t a, uin
     } else {
         at += sprintf(text + at, "%02u at %08x", n, a);
     }
-    if (kind == SA110_STORE || kind == SA110_WRITE) {
+    if (kind == SA110_STORE || kind == SA110_WRITE || kind == SA110_SWAP) {
         at += sprintf(text + at, " = %08x", v);
     }
     if (kind == SA110_WRITE && n >= SA110_CACHE) {
@@ -60,6 +60,7 @@ static void call(uint32_t kind, uint32_t privileged, uint32_t n, uint32_t a, uin
 
 static void load(uint32_t width, uint32_t address) { call(SA110_LOAD, 1, width, address, 0); }
 static void put(uint32_t width, uint32_t address, uint32_t value) { call(SA110_STORE, 1, width, address, value); }
+static void swap(uint32_t width, uint32_t address, uint32_t value) { call(SA110_SWAP, 1, width, address, value); }
 static void read_register(uint32_t n) { call(SA110_READ, 1, n, 0, 0); }
 static void write_register(uint32_t n, uint32_t value) { call(SA110_WRITE, 1, n, 0, value); }
 static void cache(uint32_t pair, uint32_t address) { call(SA110_WRITE, 1, SA110_CACHE, pair, address); }
@@ -113,17 +114,24 @@ static void accesses(void) {
     load(4, 0x330000);
     put(4, 0x420000, 0x00C0FFEE);
     load(4, 0x420000);
-    printf("\nFaults, and a store outside memory, which is dropped\n");
+    printf("\nSwaps of a word and a byte that the cache holds, and of an uncached word after a buffered store\n");
+    swap(4, 0x210014, 0x1);
+    swap(1, 0x210013, 0x7F);
+    put(4, 0x420004, 0x2);
+    swap(4, 0x420004, 0x3);
+    printf("\nFaults; outside memory a load and a swap fault, and a store is dropped\n");
     call(SA110_LOAD, 0, 4, 0x145678, 0);
     read_register(SA110_FSR);
     read_register(SA110_FAR);
     load(4, 0x500000);
     load(4, 0x600000);
     put(4, 0x600000, 0x1);
+    swap(4, 0x600000, 0x1);
     load(4, 0x330002);
     printf("\nRefused calls\n");
     load(3, 0x210010);
     put(1, 0x210010, 0x100);
+    swap(2, 0x210010, 0x1);
     call(SA110_READ, 0, SA110_CONTROL, 0, 0);
     write_register(SA110_CONTROL, SA110_M | SA110_C);
 }

@@ -10,7 +10,7 @@ import sa110
 from sa110 import A, C, M, W
 
 MEMORY = 0x40000
-NAMES = ("load", "signed", "store", "read", "write")
+NAMES = ("load", "signed", "store", "read", "write", "swap")
 
 
 def text(kind, privileged, n, a, v):
@@ -18,7 +18,7 @@ def text(kind, privileged, n, a, v):
     mode = "privileged" if privileged else "user"
     words = f"{mode:<10} {NAMES[kind]:<6} "
     words += f"register {n:02}" if kind in (sa110.READ, sa110.WRITE) else f"{n:02} at {a:08x}"
-    if kind in (sa110.STORE, sa110.WRITE):
+    if kind in (sa110.STORE, sa110.WRITE, sa110.SWAP):
         words += f" = {v:08x}"
     if kind == sa110.WRITE and n >= sa110.CACHE:
         words += f" ({a // 16},{a % 16})"
@@ -84,17 +84,24 @@ def accesses(m):
     m.load(4, 0x330000)
     m.put(4, 0x420000, 0x00C0FFEE)
     m.load(4, 0x420000)
-    print("\nFaults, and a store outside memory, which is dropped")
+    print("\nSwaps of a word and a byte that the cache holds, and of an uncached word after a buffered store")
+    m.swap(4, 0x210014, 0x1)
+    m.swap(1, 0x210013, 0x7F)
+    m.put(4, 0x420004, 0x2)
+    m.swap(4, 0x420004, 0x3)
+    print("\nFaults; outside memory a load and a swap fault, and a store is dropped")
     m.load(4, 0x145678, user=True)
     m.read(sa110.FSR)
     m.read(sa110.FAR)
     m.load(4, 0x500000)
     m.load(4, 0x600000)
     m.put(4, 0x600000, 0x1)
+    m.swap(4, 0x600000, 0x1)
     m.load(4, 0x330002)
     print("\nRefused calls")
     m.load(3, 0x210010)
     m.put(1, 0x210010, 0x100)
+    m.swap(2, 0x210010, 0x1)
     m.read(sa110.CONTROL, user=True)
     m.write(sa110.CONTROL, M | C)
 

@@ -57,6 +57,10 @@ impl Session {
         self.call(STORE, 1, width, address, value);
     }
 
+    fn swap(&mut self, width: u32, address: u32, value: u32) {
+        self.call(SWAP, 1, width, address, value);
+    }
+
     fn read_register(&mut self, n: u32) {
         self.call(READ, 1, n, 0, 0);
     }
@@ -122,17 +126,24 @@ impl Session {
         self.load(4, 0x330000);
         self.put(4, 0x420000, 0x00C0FFEE);
         self.load(4, 0x420000);
-        println!("\nFaults, and a store outside memory, which is dropped");
+        println!("\nSwaps of a word and a byte that the cache holds, and of an uncached word after a buffered store");
+        self.swap(4, 0x210014, 0x1);
+        self.swap(1, 0x210013, 0x7F);
+        self.put(4, 0x420004, 0x2);
+        self.swap(4, 0x420004, 0x3);
+        println!("\nFaults; outside memory a load and a swap fault, and a store is dropped");
         self.call(LOAD, 0, 4, 0x145678, 0);
         self.read_register(FSR);
         self.read_register(FAR);
         self.load(4, 0x500000);
         self.load(4, 0x600000);
         self.put(4, 0x600000, 0x1);
+        self.swap(4, 0x600000, 0x1);
         self.load(4, 0x330002);
         println!("\nRefused calls");
         self.load(3, 0x210010);
         self.put(1, 0x210010, 0x100);
+        self.swap(2, 0x210010, 0x1);
         self.call(READ, 0, CONTROL, 0, 0);
         self.write_register(CONTROL, M | C);
     }
@@ -212,13 +223,13 @@ fn text(numbers: &Numbers) -> String {
     } else {
         "user"
     };
-    let name = ["load", "signed", "store", "read", "write"][kind as usize];
+    let name = ["load", "signed", "store", "read", "write", "swap"][kind as usize];
     let place = match kind {
         READ | WRITE => format!("register {n:02}"),
         _ => format!("{n:02} at {a:08x}"),
     };
     let value = match kind {
-        STORE | WRITE => format!(" = {v:08x}"),
+        STORE | WRITE | SWAP => format!(" = {v:08x}"),
         _ => String::new(),
     };
     let operation = match kind {

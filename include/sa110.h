@@ -1,7 +1,8 @@
 /* The SA-110 data side for C and C++: coprocessor 15, data TLB, page walk, Dcache and write buffer, over memory that the caller lends.
  *
- * The authority on every meaning is document 01 ("The SA-110 data side"). The functions are proved to meet its definitions; what this header says
- * in prose is a summary. The proofs speak of the language's abstract machine: they do not cover the compiler's back end, this header, or callers.
+ * The authority on every meaning is document 01 ("The SA-110 data side"), and of replays and swaps document 02 ("What customers request later"). The
+ * functions are proved to meet their definitions; what this header says in prose is a summary. The proofs speak of the language's abstract machine:
+ * they do not cover the compiler's back end, this header, or callers.
  *
  * Link with libsa110.a of target/staticlib, which tools/library writes. The library needs memcpy and memset, allocates nothing, keeps nothing
  * between calls, prints nothing and never aborts: every error is an answer. Different states may be used on different threads at the same time. A
@@ -63,7 +64,7 @@ struct sa110_cp15 {
 struct sa110_counts {
     uint32_t calls;  /* accepted accesses and CP15 calls */
     uint32_t misses; /* TLB misses, those whose walk faults too */
-    uint32_t hits;   /* Dcache hits */
+    uint32_t hits;   /* Dcache hits; a swap that hits counts one */
     uint32_t fills;  /* line fills */
     uint32_t halves; /* halves of lines sent out to the write buffer */
 };
@@ -162,14 +163,21 @@ static inline int sa110_same_state(const struct sa110_state *a, const struct sa1
  *   CP15 read           register 0 to 6   ignored                            ignored
  *   CP15 write          register 1 to 8   SA110_PAIR(opcode 2, CRm),         the value; for line and entry
  *                                         used for registers 7 and 8         operations the virtual address
+ *   swap                width 1, 4        virtual address                    the value
  *
- * Five numbers with a kind above 4 or privileged above 1 are no call; this is tested before every refusal. */
+ * Loads, stores and swaps are accesses. Five numbers with a kind above 5 or privileged above 1 are no call; this is tested before every refusal.
+ *
+ * A swap (the instructions SWP and SWPB) reads a byte or a word and writes the value in its place, as one call. It answers the old value, unsigned. It
+ * is checked as a store. Where the Dcache holds the line, it reads and writes the line there: one hit is counted, the half becomes dirty, nothing is
+ * drained. Otherwise the write buffer is drained, and memory is read, then written; no line is filled. Outside memory it faults with
+ * SA110_OTHER_SECTION or SA110_OTHER_PAGE, also where a load would fill a line or a store would be dropped, and nothing is drained or written. */
 enum {
     SA110_LOAD = 0,
     SA110_SIGNED_LOAD = 1,
     SA110_STORE = 2,
-    SA110_READ = 3, /* of a CP15 register */
-    SA110_WRITE = 4 /* of a CP15 register */
+    SA110_READ = 3,  /* of a CP15 register */
+    SA110_WRITE = 4, /* of a CP15 register */
+    SA110_SWAP = 5   /* no call of a trace as text */
 };
 
 #define SA110_PAIR(opcode2, crm) ((opcode2) * 16u + (crm)) /* crm is below 16 */
@@ -213,10 +221,10 @@ enum {
 /* An answer is kind * 2^32 + value.
  *
  *   kind                    value
- *   SA110_SERVED            the value loaded or read, a signed one as its 32 bits; 0 for a store and a CP15 write
+ *   SA110_SERVED            the value loaded or read, a signed one as its 32 bits; the old value of a swap; 0 for a store and a CP15 write
  *   SA110_FAULT             FSR: domain * 16 + status. The fault's address is the call's
  *   SA110_REFUSED           the refusal's number, 1 to 12; the call has changed nothing
- *   SA110_NO_CALL           0: the five numbers are no call (kind above 4 or privileged above 1); nothing has changed */
+ *   SA110_NO_CALL           0: the five numbers are no call (kind above 5 or privileged above 1); nothing has changed */
 enum {
     SA110_SERVED = 0,
     SA110_FAULT = 1,
@@ -241,9 +249,10 @@ enum {
     SA110_DOMAIN_PAGE = 11,
     SA110_PERMISSION_SECTION = 13,  /* AP, S, R and mode do not allow it */
     SA110_PERMISSION_PAGE = 15,
-    SA110_FILL_SECTION = 4,         /* outside memory, on a line fill */
+    SA110_FILL_SECTION = 4,         /* outside memory, on a line fill, which is a load's */
     SA110_FILL_PAGE = 6,
-    SA110_OTHER_SECTION = 8,        /* outside memory, otherwise; but a store is dropped and served where M and W are set and the page's C or B is */
+    SA110_OTHER_SECTION = 8,        /* outside memory, otherwise; but a store is dropped and served where M and W are set and the page's C or B is; a
+                                       swap is not */
     SA110_OTHER_PAGE = 10
 };
 
@@ -255,8 +264,8 @@ enum {
     SA110_REFUSED_STATE = 3,       /* the state or the record is unsound: something of document 01's refusal 3 holds of it */
     SA110_REFUSED_LENGTH = 4,      /* the memory's length differs from the one at the start */
     SA110_REFUSED_COUNT = 5,       /* the count of calls stands at 4,294,967,295 */
-    SA110_REFUSED_WIDTH = 6,       /* the width is not 1, 2 or 4 */
-    SA110_REFUSED_VALUE = 7,       /* the value to store does not fit the width */
+    SA110_REFUSED_WIDTH = 6,       /* the width is not 1, 2 or 4; of a swap, not 1 or 4 */
+    SA110_REFUSED_VALUE = 7,       /* the value to store or to swap in does not fit the width */
     SA110_REFUSED_USER = 8,        /* a CP15 call in user mode */
     SA110_REFUSED_REGISTER = 9,    /* the register cannot be read (other than 0 to 6) or written (other than 1 to 8) */
     SA110_REFUSED_OPERATION = 10,  /* the pair for register 7 or 8 is not listed */
@@ -272,8 +281,8 @@ enum {
 uint32_t sa110_start(struct sa110_state *state, struct sa110_cp15 *cp15, const uint8_t *memory, size_t memory_length, const uint8_t *store,
                      size_t store_length);
 
-/* Makes one call of five numbers and gives its answer. A served call and a fault change state, record, memory and cache store as document 01
- * says; a refused call, and numbers that are no call, change nothing. Each call tests the whole state for refusal 3, which takes a microsecond or
+/* Makes one call of five numbers and gives its answer. A served call and a fault change state, record, memory and cache store as documents 01 and
+ * 02 say; a refused call, and numbers that are no call, change nothing. Each call tests the whole state for refusal 3, which takes a microsecond or
  * two; a run tests it once. */
 uint64_t sa110_call(struct sa110_state *state, struct sa110_cp15 *cp15, uint8_t *memory, size_t memory_length, uint8_t *store,
                     size_t store_length, uint32_t kind, uint32_t privileged, uint32_t n, uint32_t a, uint32_t v);
@@ -314,8 +323,8 @@ uint32_t sa110_sound(const struct sa110_state *state, const struct sa110_cp15 *c
  * A line is a call: five decimal fields, parted by commas, in the order of a call's numbers (kind, privileged, n, a, v), and a line feed. It has at
  * most SA110_TRACE_LINE bytes with the line feed; a field is one or more digits, and its value at most 4,294,967,295. Ignored fields are tested, too.
  * Each line prints one: its number from 1, the answer's kind (0 served, 1 fault, 2 refused) and its value, parted by commas, and a line feed. A
- * negative signed load has a minus sign. A line that departs from the form, has a kind above 4 or privileged above 1, or ends without a line feed is
- * printed as refused by 13, and the replay stops there: nothing behind it is printed. Any other refusal is printed and the replay goes on.
+ * negative signed load has a minus sign. A line that departs from the form, has a kind above 4 (SA110_SWAP too) or privileged above 1, or ends without a
+ * line feed is printed as refused by 13, and the replay stops there: nothing behind it is printed. Any other refusal is printed and the replay goes on.
  *
  * A part may end anywhere, also inside a line or a number. `ends` is not 0 where the input ends with this part, and then only: a line that has begun
  * is malformed then. The slice `out` may have any length. What is printed does not depend on the parts and slices.
@@ -341,10 +350,11 @@ uint32_t sa110_replay(struct sa110_replay *replay, uint8_t *memory, size_t memor
 /* ---- The plain machine ---- */
 
 /* Makes a list of calls, in the form of sa110_run, on the plain machine: memory and the five registers, all zero at the start, without TLB,
- * Dcache and write buffer. Stores are in memory at once; writes of registers 7 and 8 do nothing. For a list that keeps document 01's rules R1 to
- * R6 the answers are those of sa110_run after a served start on the same bytes, and once each line stored to was cleaned after its last store, with a
- * drain after that, so is memory, byte for byte: this is proved (term 3). Whether a list keeps the rules, compare's program counts tells, by the second
- * model, which is tested and not proved. A memory whose length does not fit gives refusal 1, with no call made. */
+ * Dcache and write buffer. Stores are in memory at once, and a swap reads and writes memory together; writes of registers 7 and 8 do nothing. For a
+ * list that keeps document 01's rules R1 to R6 the answers are those of sa110_run after a served start on the same bytes, and once each line stored to
+ * was cleaned after its last store, with a drain after that, so is memory, byte for byte: this is proved (term 3). To the rules a served swap is a store.
+ * Whether a list keeps the rules, compare's program counts tells, by the second model, which is tested and not proved. A memory whose length does not
+ * fit gives refusal 1, with no call made. */
 struct sa110_plain_ran sa110_plain_run(uint8_t *memory, size_t memory_length, const uint32_t *calls, size_t calls_length, uint64_t *answers,
                                        size_t answers_length);
 
@@ -355,7 +365,7 @@ struct sa110_plain_ran sa110_plain_run(uint8_t *memory, size_t memory_length, co
 uint64_t sa110_walk(const uint8_t *memory, size_t memory_length, uint32_t base, uint32_t va);
 
 /* Gives an entry of the rights table: 0 allowed, 1 domain fault, 2 permission fault; 255 for an index above 255. The index is
- * domain value * 64 + AP * 16 + S * 8 + R * 4 + privileged * 2 + store. */
+ * domain value * 64 + AP * 16 + S * 8 + R * 4 + privileged * 2 + store; store is 1 for a store and a swap, 0 for loads. */
 uint8_t sa110_right(uint32_t index);
 
 #ifdef __cplusplus

@@ -4,14 +4,16 @@
     m = sa110.Machine(0x40000)                  # memory of 256 KB, all zeros; memory may also be a bytearray, which is lent
     m.put(4, 0x4004, 0xC0E)                     # a store of a word; privileged unless user=True
     m.write(sa110.BASE, 0x4000)                 # a CP15 write
+    print(m.swap(4, 0x8000, 1))                 # a swap of a word: 1 is stored, and the answer is the old value
     print(m.load(4, 0x4004), m.counts)          # an answer, and the five counts
     answers, plain, memory = m.plain()          # the calls made so far, on the plain machine
     print(sa110.replay("3,1,1,0,0\\n"), end="")   # a trace kept as text, replayed on 65,536 zero bytes: 1,0,112
 
-include/sa110.h says what each function of the library does; document 01 is the authority on every meaning. What the library refuses is an answer. A
-ValueError is raised for numbers that do not fit into 32 bits and for a memory and a cache store that are one bytearray, a TypeError for arguments of another
-type (memory is a length, or a bytearray, whose bytes the calls change; anything else that has bytes is copied), and an OSError where the shared
-object is missing. A replay raises a ValueError where it is fed behind its end, and where its struct's fields are outside their ranges.
+include/sa110.h says what each function of the library does; document 01, and document 02 for replays and swaps, is the authority on every meaning. What
+the library refuses is an answer. A ValueError is raised for numbers that do not fit into 32 bits and for a memory and a cache store that are one
+bytearray, a TypeError for arguments of another type (memory is a length, or a bytearray, whose bytes the calls change; anything else that has bytes is
+copied), and an OSError where the shared object is missing. A replay raises a ValueError where it is fed behind its end, and where its struct's fields
+are outside their ranges.
 """
 
 import ctypes
@@ -25,8 +27,8 @@ FIELDS = 5
 TRACE_LINE = 64  # bytes of the longest line of a trace as text, with its line feed
 PRINTED_LINE = 34  # bytes of the longest line that a replay prints, with its line feed
 
-# Kinds of call.
-LOAD, SIGNED_LOAD, STORE, READ, WRITE = range(5)
+# Kinds of call; a trace as text has no swaps.
+LOAD, SIGNED_LOAD, STORE, READ, WRITE, SWAP = range(6)
 
 # Registers; 4 reads 0 and ignores writes.
 ID, CONTROL, BASE, DOMAINS, RESERVED, FSR, FAR, CACHE, TLB = range(9)
@@ -78,8 +80,8 @@ REFUSALS = {
     3: "the state is unsound",
     4: "the memory's length differs from the one at the start",
     5: "the count of calls stands at 4,294,967,295",
-    6: "the width is not 1, 2 or 4",
-    7: "the value to store does not fit the width",
+    6: "the width is not 1, 2 or 4, or is 2 for a swap",
+    7: "the value to store or to swap in does not fit the width",
     8: "a CP15 call in user mode",
     9: "the register cannot be read or written",
     10: "the pair for register 7 or 8 is not listed",
@@ -205,7 +207,7 @@ class Answer(int):
 
     @property
     def value(self):
-        """The value loaded or read; FSR of a fault; the number of a refusal."""
+        """The value loaded or read, the old value of a swap; FSR of a fault; the number of a refusal."""
         return int(self) & 0xFFFFFFFF
 
     @property
@@ -332,6 +334,10 @@ class Machine:
         """A store."""
         return self.call(STORE, 0 if user else 1, width, address, value)
 
+    def swap(self, width, address, value, user=False):
+        """A swap of a byte or a word: stores the value and answers the old one, as one call."""
+        return self.call(SWAP, 0 if user else 1, width, address, value)
+
     def read(self, register, user=False):
         return self.call(READ, 0 if user else 1, register, 0, 0)
 
@@ -380,8 +386,8 @@ class Machine:
 
 
 class Replay:
-    """A replay of a trace kept as text: a call a line, five decimal fields parted by commas, in the order of a call's numbers. Each line prints one:
-    its number, 0 served or 1 fault or 2 refused, and the value. A line that departs from this is printed as refused by 13 and is the last one."""
+    """A replay of a trace kept as text: a call a line, five decimal fields parted by commas, in the order of a call's numbers; no swaps. Each line prints
+    one: its number, 0 served or 1 fault or 2 refused, and the value. A line that departs from this is printed as refused by 13 and is the last one."""
 
     def __init__(self, memory=65536, store=None, room=65536):
         """Starts; memory and cache store are given as to Machine. `refusal` is 0, 1 or 2. `room` is the length, at least 1, of the slice that is lent

@@ -1,6 +1,6 @@
 //! The SA-110 data side for Rust: safe functions over the static library. include/sa110.h says what
-//! each function does; document 01 is the authority on every meaning. Every error is an answer, and
-//! nothing panics.
+//! each function does; document 01, and document 02 for replays and swaps, is the authority on every
+//! meaning. Every error is an answer, and nothing panics.
 
 use std::mem::{offset_of, size_of};
 
@@ -32,6 +32,9 @@ pub const SIGNED_LOAD: u32 = 1;
 pub const STORE: u32 = 2;
 pub const READ: u32 = 3;
 pub const WRITE: u32 = 4;
+/// Reads a byte or a word and writes the value in its place; answers the old value, unsigned. A trace as
+/// text has no swaps.
+pub const SWAP: u32 = 5;
 
 // Registers.
 pub const ID: u32 = 0;
@@ -108,7 +111,8 @@ pub const NO_CALL: u64 = 3 << 32;
 /// What a call answers.
 #[derive(Clone, Copy, Debug, PartialEq, Eq)]
 pub enum Answer {
-    /// The value loaded or read, a signed one as its 32 bits; 0 for a store and a CP15 write.
+    /// The value loaded or read, a signed one as its 32 bits; the old value of a swap; 0 for a store and a
+    /// CP15 write.
     Value(u32),
     /// The fault's address is the call's.
     Fault { status: u32, domain: u32 },
