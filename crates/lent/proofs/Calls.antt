@@ -2,9 +2,9 @@
 use Prim.Native.Nat.{ℕ}
 use mathlib.Core.Path.{_≡_}
 use mathlib.Core.List.{[], _∷_}
-use lib.Dec.{leb}
 use lib.ListN.{getD}
 use Rattle.values.proofs.Cases.{case}
+use Rattle.trace.specs.Calls.{isCall}
 use Rattle.trace.specs.Fold.{Left, callsIn, answersOf, finalOf, leftOf}
 use Rattle.step.specs.Run.{run}
 use Rattle.lent.specs.Coded.{Coded, calledBy}
@@ -18,4 +18,4 @@ pub one-call : (m : Machine) (kind privileged n a v : ℕ)
     → codedLeft (run m (kind ∷ privileged ∷ n ∷ a ∷ v ∷ []) (0x300000000 ∷ [])) ≡ calledBy m kind privileged n a v
 unfolding run callsIn leftOf answersOf finalOf calledBy
 one-call m kind privileged n a v =
-    case (leb kind 4) (λ k. case (leb privileged 1) (λ p. rw (k, p)) (λ p. rw (k, p))) (λ k. rw k)
+    case (isCall kind privileged) (λ k. rw k) (λ k. rw k)
