@@ -16,7 +16,6 @@ use machine::Scalars;
 use translation::Checked;
 use translation::Place;
 use values::Access;
-use values::Kind;
 
 // An access that passed, by its kind.
 fn passed(
@@ -38,21 +37,20 @@ fn passed(
         (λ (m : Machine). spec.passed m a p (a .kind)) ⌝ }
 {
     let k = a.kind;
-    match k {
-        Kind::Load | Kind::SignedLoad => loads::load(
+    if values::is_store(k) {
+        return swaps::store_or_swap(
             memory,
             words,
             bytes,
             lines,
-            pointers,
             store,
             s,
             a,
+            values::stored_value(k),
             p,
-        ),
-        Kind::Store(v) => stores::store(memory, words, bytes, lines, store, s, a, v, p),
-        Kind::Swap(v) => swaps::swap(memory, words, bytes, lines, store, s, a, v, p),
+        );
     }
+    loads::load(memory, words, bytes, lines, pointers, store, s, a, p)
 }
 
 // An access of width 1, 2 or 4.

@@ -7,7 +7,6 @@ ghost use lib.ListN.{length, getD};
 ghost use Rattle.values.specs.Counts.{countLimit};
 ghost use Rattle.words.specs.Words.{isWidth};
 ghost use Rattle.bus.specs.Physical.{physical, aborts};
-ghost use Rattle.buffer.specs.Ranges.{Fits};
 ghost use Rattle.translation.specs.Alignment as aligned;
 ghost use Rattle.translation.specs.Ranges.{PlaceRanged};
 ghost use Rattle.machine.specs.Lists.{Lists, lists, machineOf, steppedOf, Leaves, LeavesBelow};
@@ -98,7 +97,7 @@ fn load_fill(
 }
 
 // A load from memory, once the buffer holds no byte of it.
-pub fn load_uncached(
+fn load_uncached(
     memory: &mut [u8],
     words: &mut [u64],
     bytes: &mut [[u8; 16]; 8],
@@ -109,8 +108,7 @@ pub fn load_uncached(
     requires { ⌜ MissReady (now memory) (now words) (now bytes) (s .used) a p × (aborts (physical (now memory)) (p .address) ≡ false) ⌝ }
     ensures { λ r.
         ⌜ LeavesBelow (now (memory .entry)) (now (words .entry)) (now (bytes .entry)) s (now (memory .exit)) (now (words .exit)) (now (bytes .exit)) r
-        (λ (m : Machine). spec.loadUncached m a p)
-        × Fits (now (memory .exit)) (now (words .exit)) (now (bytes .exit)) (r .scalars .used) ⌝ }
+        (λ (m : Machine). spec.loadUncached m a p) ⌝ }
 {
     let pa = p.address;
     let k = a.kind;

@@ -15,9 +15,10 @@ use Rattle.values.specs.declared.Access.{Access}
 use Rattle.values.specs.declared.Transfer.{Transfer}
 use Rattle.values.specs.declared.Call.the-variants.{Write}
 use Rattle.values.specs.declared.Call.the-variants as calls
-use Rattle.values.proofs.Cases.{case, and-left, and-right}
-use Rattle.words.specs.Words.{isWidth}
-use Rattle.refusals.specs.Refusals.{refusalIn, row6, row7, row8, row9, row10, row11, row12, widthFits, valueFits, callRefusal}
+use Rattle.values.specs.Kinds.{isStore, storedValue, isSwap}
+use Rattle.values.proofs.Cases.{case, and-left, and-right, clash}
+use Rattle.words.specs.Words.{isWidth, fitsWidth}
+use Rattle.refusals.specs.Refusals.{refuses, refusalIn, row6, row7, row8, row9, row10, row11, row12, widthFits, valueFits, callRefusal}
 
 module _ (r : Row ℕ) (rs : List (Row ℕ)) where
   pub row-met : r .met ≡ true → refusalIn (r ∷ rs) ≡ r .gives
@@ -72,6 +73,41 @@ no-width Load w h = h
 no-width SignedLoad w h = h
 no-width (Store v) w h = h
 no-width (Swap v) w h = rw h
+
+-- a swap has no width of 2; any other access that stores has every width
+pub swap-half : (k : Kind) (w : ℕ) → isSwap k ≡ true → w ≡ 2 → widthFits w k ≡ false
+swap-half Load w h e = clash {b = false} h refl
+swap-half SignedLoad w h e = clash {b = false} h refl
+swap-half (Store v) w h e = clash {b = false} h refl
+swap-half (Swap v) w h e = rw e
+
+pub store-width : (k : Kind) (w : ℕ) → isWidth w ≡ true → isSwap k ≡ false → widthFits w k ≡ true
+store-width Load w h e = h
+store-width SignedLoad w h e = h
+store-width (Store v) w h e = h
+store-width (Swap v) w h e = clash {b = true} refl e
+
+pub other-width : (k : Kind) (w : ℕ) → isWidth w ≡ true → eqb w 2 ≡ false → widthFits w k ≡ true
+other-width Load w h e = h
+other-width SignedLoad w h e = h
+other-width (Store v) w h e = h
+other-width (Swap v) w h e = rw (h, e)
+
+-- the value of an access that stores
+pub value-fits : (k : Kind) (w : ℕ) → isStore k ≡ true → valueFits w k ≡ fitsWidth w (storedValue k)
+value-fits Load w h = clash {b = false} h refl
+value-fits SignedLoad w h = clash {b = false} h refl
+value-fits (Store v) w h = refl
+value-fits (Swap v) w h = refl
+
+-- an access that does not store is refused by its width alone
+pub no-store-refused : (k : Kind) (w : ℕ) → isWidth w ≡ true → isStore k ≡ false
+    → 0 ≡ refusalIn (refuses 6 (not (widthFits w k)) ∷ refuses 7 (not (valueFits w k)) ∷ [])
+unfolding firstMet
+no-store-refused Load w h e = rw h
+no-store-refused SignedLoad w h e = rw h
+no-store-refused (Store v) w h e = clash {b = true} refl e
+no-store-refused (Swap v) w h e = clash {b = true} refl e
 
 -- an access that is not refused has a width, and its value fits it
 pub access-accepted : (a : Access) → callRefusal (calls.Access a) ≡ 0 → (isWidth (a .width) ≡ true) × (valueFits (a .width) (a .kind) ≡ true)

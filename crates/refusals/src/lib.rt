@@ -1,7 +1,8 @@
 // The refusals that the lengths and the call alone decide: the number of the first row met, 0 where none is.
 ghost use mathlib.Core.Path.{_≡_};
-ghost use mathlib.Core.Bool.{true, false};
+ghost use mathlib.Core.Bool.{true, false, not};
 ghost use mathlib.Core.List.{[], _∷_};
+ghost use Rattle.values.specs.Kinds.{isStore};
 ghost use Rattle.words.specs.Words.{isWidth};
 ghost use Rattle.refusals.specs.Refusals as spec;
 ghost use Rattle.refusals.specs.Refusals.{refusalIn};
@@ -33,30 +34,17 @@ pub fn lent_refusal(memory: usize, store: usize) -> u32
     1
 }
 
-// Whether a width of 1, 2 or 4 is one of the kind: a swap has none of 2 (refusal 6).
-fn width_fits(width: u32, k: Kind) -> bool
-    requires { ⌜ isWidth width ≡ true ⌝ }
-    ensures { λ r. ⌜ r ≡ spec.widthFits width k ⌝ }
+// Refusals 6 and 7 of an access that stores, by a width of 1, 2 or 4, or 0: a swap has no width of 2.
+fn store_refusal(width: u32, k: Kind) -> u32
+    requires { ⌜ (isWidth width ≡ true) × (isStore k ≡ true) ⌝ }
+    ensures { λ r. ⌜ r ≡ refusalIn (spec.refuses 6 (not (spec.widthFits width k)) ∷ spec.refuses 7 (not (spec.valueFits width k)) ∷ []) ⌝ }
 {
-    match k {
-        Kind::Load => true,
-        Kind::SignedLoad => true,
-        Kind::Store(v) => true,
-        Kind::Swap(v) => width != 2,
+    if width == 2 {
+        if values::is_swap(k) {
+            return 6;
+        }
     }
-}
-
-// Whether the value to store, if there is one, fits a width of 1, 2 or 4 (refusal 7).
-fn value_fits(width: u32, k: Kind) -> bool
-    requires { ⌜ isWidth width ≡ true ⌝ }
-    ensures { λ r. ⌜ r ≡ spec.valueFits width k ⌝ }
-{
-    match k {
-        Kind::Load => true,
-        Kind::SignedLoad => true,
-        Kind::Store(v) => words::fits_width(width, v),
-        Kind::Swap(v) => words::fits_width(width, v),
-    }
+    if words::fits_width(width, values::stored_value(k)) { 0 } else { 7 }
 }
 
 // Refusals 6 and 7 of an access, or 0.
@@ -65,14 +53,12 @@ pub fn access_refusal(a: Access) -> u32
 {
     if words::is_width(a.width) {
         let k = a.kind;
-        if width_fits(a.width, k) {
-            if value_fits(a.width, k) { 0 } else { 7 }
-        } else {
-            6
+        if values::is_store(k) {
+            return store_refusal(a.width, k);
         }
-    } else {
-        6
+        return 0;
     }
+    6
 }
 
 // Refusals 8 and 9 of a read, or 0.

@@ -51,7 +51,7 @@ pub fn store_hit(
 }
 
 // A store that drains the buffer and goes to memory.
-pub fn store_direct(
+fn store_direct(
     memory: &mut [u8],
     words: &mut [u64],
     bytes: &mut [[u8; 16]; 8],
@@ -106,7 +106,7 @@ fn store_aborted(s: Scalars, a: Access, p: Place) -> Outcome
 }
 
 // A store that misses.
-fn store_miss(
+pub fn store_miss(
     memory: &mut [u8],
     words: &mut [u64],
     bytes: &mut [[u8; 16]; 8],
@@ -128,32 +128,4 @@ fn store_miss(
         return store_buffered(memory, words, bytes, s, a, v, p);
     }
     store_direct(memory, words, bytes, s, a, v, p)
-}
-
-// A store: the Dcache is searched, even when disabled; a miss allocates no line.
-pub fn store(
-    memory: &mut [u8],
-    words: &mut [u64],
-    bytes: &mut [[u8; 16]; 8],
-    lines: &mut [u64],
-    cached: &mut [u8],
-    s: Scalars,
-    a: Access,
-    v: u32,
-    p: Place,
-) -> Outcome
-    requires { ⌜ MissReady (now memory) (now words) (now bytes) (s .used) a p × (length (now lines) ≡ 512) × (length (now cached) ≡ 16384)
-        × (s .counts .hits < countLimit) ⌝ }
-    ensures { λ r.
-        ⌜ ((pointers : List ℕ)
-        → Leaves (lists (now (memory .entry)) (now (words .entry)) (now (bytes .entry)) (now (lines .entry)) pointers (now (cached .entry))) s
-        (lists (now (memory .exit)) (now (words .exit)) (now (bytes .exit)) (now (lines .exit)) pointers (now (cached .exit))) r
-        (λ (m : Machine). spec.store m a v p)) ⌝ }
-{
-    let va = translation::cleared(a);
-    let found = cache::find(lines, va);
-    match found {
-        Search::At(i) => store_hit(lines, cached, s, a, v, i),
-        Search::Nothing => store_miss(memory, words, bytes, s, a, v, p),
-    }
 }

@@ -1,4 +1,4 @@
-// Swaps whose alignment, translation and rights pass: in the Dcache, or in memory behind a drain.
+// Swaps whose alignment, translation and rights pass: in the Dcache, or in memory behind a drain. Stores or swaps, by their kind.
 ghost use mathlib.Core.Path.{_≡_};
 ghost use mathlib.Core.Bool.{true, false};
 ghost use mathlib.Core.List.{List};
@@ -11,6 +11,7 @@ ghost use Rattle.machine.specs.Lists.{lists, machineOf, steppedOf, Leaves, Leav
 ghost use Rattle.machine.specs.Machine.{Machine};
 ghost use Rattle.reach.specs.Code.{MissReady};
 ghost use Rattle.swaps.specs.Swaps as spec;
+ghost use Rattle.swaps.specs.Code.{storeOrSwap};
 use machine::Outcome;
 use machine::Scalars;
 use translation::Place;
@@ -58,15 +59,14 @@ fn swap_direct(
         ⌜ LeavesBelow (now (memory .entry)) (now (words .entry)) (now (bytes .entry)) s (now (memory .exit)) (now (words .exit)) (now (bytes .exit)) r
         (λ (m : Machine). spec.swapDirect m a v p) ⌝ }
 {
+    let pa = p.address;
+    let k = a.kind;
     let drained = machine::drain(memory, words, bytes, s);
-    let read = loads::load_uncached(memory, words, bytes, drained, a, p);
-    let left = read.scalars;
-    let old = read.answer;
-    let written = stores::store_direct(memory, words, bytes, left, a, v, p);
-    let after = written.scalars;
+    let old = words::load(memory, pa.0 as usize, a.width);
+    words::store(memory, pa.0 as usize, a.width, v);
     Outcome {
-        scalars: after,
-        answer: old,
+        scalars: drained,
+        answer: translation::load_answer(k, a.width, old),
     }
 }
 
@@ -92,8 +92,8 @@ fn swap_miss(
     swap_direct(memory, words, bytes, s, a, v, p)
 }
 
-// A swap: the Dcache is searched, even when disabled; a miss allocates no line.
-pub fn swap(
+// A store or a swap, by its kind: the Dcache is searched, even when disabled; a miss allocates no line.
+pub fn store_or_swap(
     memory: &mut [u8],
     words: &mut [u64],
     bytes: &mut [[u8; 16]; 8],
@@ -110,12 +110,24 @@ pub fn swap(
         ⌜ ((pointers : List ℕ)
         → Leaves (lists (now (memory .entry)) (now (words .entry)) (now (bytes .entry)) (now (lines .entry)) pointers (now (cached .entry))) s
         (lists (now (memory .exit)) (now (words .exit)) (now (bytes .exit)) (now (lines .exit)) pointers (now (cached .exit))) r
-        (λ (m : Machine). spec.swap m a v p)) ⌝ }
+        (λ (m : Machine). storeOrSwap m a v p)) ⌝ }
 {
     let va = translation::cleared(a);
+    let k = a.kind;
+    let swaps = values::is_swap(k);
     let found = cache::find(lines, va);
     match found {
-        Search::At(i) => swap_hit(lines, cached, s, a, v, i),
-        Search::Nothing => swap_miss(memory, words, bytes, s, a, v, p),
+        Search::At(i) => {
+            if swaps {
+                return swap_hit(lines, cached, s, a, v, i);
+            }
+            stores::store_hit(lines, cached, s, a, v, i)
+        },
+        Search::Nothing => {
+            if swaps {
+                return swap_miss(memory, words, bytes, s, a, v, p);
+            }
+            stores::store_miss(memory, words, bytes, s, a, v, p)
+        },
     }
 }

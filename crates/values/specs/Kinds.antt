@@ -1,4 +1,5 @@
 -- "Kinds: load, signed load, store"; document 02, Two: "One new call swaps a byte or a word".
+use Prim.Native.Nat.{ℕ}
 use mathlib.Core.Bool.{Bool, true, false}
 use Rattle.values.specs.declared.Kind.{Kind}
 use Rattle.values.specs.declared.Kind.the-variants.{Load, SignedLoad, Store, Swap}
@@ -9,6 +10,13 @@ isStore Load = false
 isStore SignedLoad = false
 isStore (Store v) = true
 isStore (Swap v) = true
+
+-- the value that an access stores, 0 where it stores none
+abbrev pub storedValue : Kind → ℕ
+storedValue Load = 0
+storedValue SignedLoad = 0
+storedValue (Store v) = v
+storedValue (Swap v) = v
 
 abbrev pub isSwap : Kind → Bool
 isSwap Load = false

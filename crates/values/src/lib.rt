@@ -4,7 +4,7 @@ ghost use Prim.Native.Nat.{_<_};
 ghost use Rattle.values.specs.Bits.{number};
 ghost use Rattle.values.specs.Answers.{statusOf};
 ghost use Rattle.values.specs.Control as spec;
-ghost use Rattle.values.specs.Kinds.{isStore};
+ghost use Rattle.values.specs.Kinds.{isStore, storedValue, isSwap};
 ghost use Rattle.values.specs.Registers.{zeroRegisters, zeroCp15};
 ghost use Rattle.values.specs.Counts.{zeroCounts};
 
@@ -179,6 +179,30 @@ pub fn is_store(k: Kind) -> bool
         Kind::Load => false,
         Kind::SignedLoad => false,
         Kind::Store(v) => true,
+        Kind::Swap(v) => true,
+    }
+}
+
+// The value that an access stores, 0 where it stores none.
+pub fn stored_value(k: Kind) -> u32
+    ensures { λ r. ⌜ r ≡ storedValue k ⌝ }
+{
+    match k {
+        Kind::Load => 0,
+        Kind::SignedLoad => 0,
+        Kind::Store(v) => v,
+        Kind::Swap(v) => v,
+    }
+}
+
+// Whether an access swaps.
+pub fn is_swap(k: Kind) -> bool
+    ensures { λ b. ⌜ b ≡ isSwap k ⌝ }
+{
+    match k {
+        Kind::Load => false,
+        Kind::SignedLoad => false,
+        Kind::Store(v) => false,
         Kind::Swap(v) => true,
     }
 }

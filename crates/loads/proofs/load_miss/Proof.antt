@@ -91,7 +91,7 @@ returns-3 c =
     let a = start .args in
     let l = (lists (now (a .memory)) (now (a .words)) (now (a .bytes)) (now (a .lines)) (now (a .pointers)) (now (a .store))) in
     let f : fills (a .s .cp15 .registers) (a .p) ≡ false = sym (after-fills .fills .ensures) ∙ else2 .if2 .left in
-    let k = after-load-uncached .load-uncached .ensures .0 (now (a .lines)) (now (a .pointers)) (now (a .store)) in
+    let k = after-load-uncached .load-uncached .ensures (now (a .lines)) (now (a .pointers)) (now (a .store)) in
     record {
       same = λ es n. k .same es n ∙ sym (miss-uncached (machineOf l es (a .s) n) (a .a) (a .p) (sym (after-aborts .aborts .ensures) ∙ else1 .if1 .left) f);
       bytes-long = k .bytes-long;

@@ -45,12 +45,12 @@ returns c =
     let after-ready-access = after-load .before .before .before .before .before .before .before in
     let start = after-ready-access .before .before .before .before .before .before .before in
     let a = start .args in
-    let left = after-ready-access .ready-access .ensures in (λ ls ps st. record {
+    λ ls ps st. record {
       same = λ es n. uncached-left es (a .s) n (a .a) (lists (now (a .memory)) (now (a .words)) (now (a .bytes)) ls ps st) _ (a .p) _ _ _ _
-          left refl refl refl (after-load .load .ensures .value) (after-with-used .with-used .ensures)
+          (after-ready-access .ready-access .ensures) refl refl refl (after-load .load .ensures .value) (after-with-used .with-used .ensures)
           (c .load-answer .ensures);
-      bytes-long = left .fits .bytes-long;
-    }, rw (after-with-used .with-used .ensures) (left .fits))
+      bytes-long = after-ready-access .ready-access .ensures .fits .bytes-long;
+    }
 
 pub load-uncached-spec : {M : Type 1} → statement M
 load-uncached-spec =
