@@ -25,13 +25,13 @@ use Rattle.refusals.proofs.Rows.{rows-passed, access-accepted}
 use Rattle.trace.specs.Calls.{callOf, callAt, isCallAt}
 use Rattle.trace.specs.Fold.{callsIn, answersOf}
 use Rattle.trace.proofs.Folds.{answers-long}
-use Rattle.buffer.specs.Buffer.{drained, ready}
+use Rattle.buffer.specs.Buffer.{drained}
 use Rattle.cache.specs.Dcache.{Side}
 use Rattle.machine.specs.Machine.{Machine, memoryOf, storeOf, withCounts, Stepped, steppedFrom}
 use Rattle.reach.specs.Reach.{faulted}
 use Rattle.soundness_test.specs.Formed.{Formed}
 use Rattle.soundness_laws.proofs.ScalarParts.{RegistersAre}
-use Rattle.soundness_laws.proofs.BackingKept.{BackingIs, drained-kept, ready-kept}
+use Rattle.soundness_laws.proofs.BackingKept.{BackingIs, drained-kept}
 use Rattle.soundness_laws.proofs.Holding.{holding-of}
 use Rattle.soundness_laws.proofs.Reader.{clauses-parts}
 use Rattle.soundness_laws.proofs.TlbKept.{value-low}
@@ -70,9 +70,7 @@ module _ (s : Side) (g : Gets s) (x : Stepped) (f : Formed (x .machine)) (r : Re
   access-told a w (stores v k e) = subst (λ (y : Kind). Told (isSigned y) (x .answer)) (sym k) (subst (Told false) (sym e) (refl, omega arith))
   access-told a w (swaps-cached at e) = bytes-told a (s .cache .store) at (x .answer) w (g .store-bytes) e
   access-told a w (swaps-memory at e) =
-      let b = drained (s .backing) in
-      let k = ready-kept (g .size) b at (a .width) (drained-kept (g .size) (s .backing) (g .backing)) in
-      bytes-told a (ready b at (a .width) .memory) at (x .answer) w (k .memory-bytes) e
+      bytes-told a (drained (s .backing) .memory) at (x .answer) w (drained-kept (g .size) (s .backing) (g .backing) .memory-bytes) e
 
   -- a call
   answers-told : (c : Call) → callRefusal c ≡ 0 → Answers s c x → Told (isSignedLoad c) (x .answer)

@@ -72,7 +72,7 @@ module _ (m : Machine) (a : Access) where
     store-found-without v Nothing = store-miss-without v
 
     swap-miss-without : (v : ℕ) → Without (swapMiss (machineWithoutI m) a v p) (swapMiss m a v p)
-    unfolding swapMiss swapDirect loadUncached storeDirect
+    unfolding swapMiss swapDirect storeDirect
     swap-miss-without v = chosen Without (aborts (physicalOf m) (p .address)) _ _ _ _ (fault-without (otherStatus p) (p .domain)) refl
 
     swap-found-without : (v : ℕ) (x : Search) → Without (swapFound (machineWithoutI m) a v p x) (swapFound m a v p x)

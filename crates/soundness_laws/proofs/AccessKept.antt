@@ -32,7 +32,7 @@ use Rattle.translation.specs.Translation.{translation, entriesAfter, pointerAft
 use Rattle.buffer.specs.Buffer.{withMemory, drained, buffered, ready}
 use Rattle.cache.specs.Dcache.{find, hitStore, filled}
 use Rattle.cache.proofs.Counting.{store-dirties, fill-dirties}
-use Rattle.machine.specs.Machine.{Machine, memoryOf, physicalOf, withSide, withCache, withCounts, drainedAll}
+use Rattle.machine.specs.Machine.{Machine, memoryOf, physicalOf, withSide, withCache, withCounts}
 use Rattle.soundness_test.specs.Meaning.{linesOf, IsSound}
 use Rattle.soundness_test.specs.Formed.{Formed}
 use Rattle.reach.specs.Reach.{decision, committed, faulted}
@@ -235,56 +235,35 @@ module _ (n start : ℕ) (a : Access) (width : isWidth (a .width) ≡ true) (low
         unfolding store
         store-done = store-found-done (find (linesOf m) (cleared a)) refl
 
-  -- ---- swaps
+      -- ---- swaps: what a store leaves, or a fault
 
-  -- the buffer drained; an uncached load
-  drained-amid : (m : Machine) → Amid n start 0 m → Amid n start 0 (drainedAll m)
-  drained-amid m k =
-      record {
-        holding =
-            with-backing n start m (k .holding) (drained (m .side .backing)) (drained-kept n (m .side .backing) (k .holding .side .backing));
-        room = k .room;
-      }
+        swap-miss-done : Done n start (swapMiss m a v p .machine)
+        unfolding swapMiss swapDirect
+        swap-miss-done =
+            case (aborts (physicalOf m) (p .address))
+            (λ u. rw u (faulted-done (otherStatus p) (p .domain) (r .domain)))
+            (λ u. rw u direct-done)
 
-  uncached-amid : (m : Machine) → Amid n start 0 m → (p : Place) → PlaceRanged (cleared a) p → Amid n start 0 (loadUncached m a p .machine)
-  unfolding loadUncached
-  uncached-amid m k p r = record { holding = uncached-done m k p r .holding; room = k .room }
+        swap-found-done : (x : Search) → find (linesOf m) (cleared a) ≡ x → Done n start (swapFound m a v p x .machine)
+        unfolding swapHit
+        swap-found-done (At i) e = store-hit-done i e
+        swap-found-done Nothing e = swap-miss-done
 
-  module _ (m : Machine) (k : Amid n start 0 m) (p : Place) (r : PlaceRanged (cleared a) p) (v : ℕ) where
-    swap-direct-done : Done n start (swapDirect m a v p .machine)
-    unfolding swapDirect
-    swap-direct-done =
-        let d = drainedAll m in
-        direct-done (loadUncached d a p .machine) (uncached-amid d (drained-amid m k) p r) p r v
+        swap-done : Done n start (swap m a v p .machine)
+        unfolding swap
+        swap-done = swap-found-done (find (linesOf m) (cleared a)) refl
 
-    swap-miss-done : Done n start (swapMiss m a v p .machine)
-    unfolding swapMiss
-    swap-miss-done =
-        case (aborts (physicalOf m) (p .address))
-        (λ u. rw u (faulted-done m k (otherStatus p) (p .domain) (r .domain)))
-        (λ u. rw u swap-direct-done)
+      -- ---- by kind
 
-    swap-found-done : (x : Search) → find (linesOf m) (cleared a) ≡ x → Done n start (swapFound m a v p x .machine)
-    unfolding swapHit
-    swap-found-done (At i) e = store-hit-done m k p r v i e
-    swap-found-done Nothing e = swap-miss-done
-
-    swap-done : Done n start (swap m a v p .machine)
-    unfolding swap
-    swap-done = swap-found-done (find (linesOf m) (cleared a)) refl
-
-  -- ---- by kind
-
-  module _ (m : Machine) (k : Amid n start 0 m) where
-    passed-done : (p : Place) → PlaceRanged (cleared a) p → (x : Kind) → Done n start (passed m a p x .machine)
-    passed-done p r Load = load-done m k p r
-    passed-done p r SignedLoad = load-done m k p r
-    passed-done p r (Store v) = store-done m k p r v
-    passed-done p r (Swap v) = swap-done m k p r v
+      passed-done : (x : Kind) → Done n start (passed m a p x .machine)
+      passed-done Load = load-done
+      passed-done SignedLoad = load-done
+      passed-done (Store v) = store-done v
+      passed-done (Swap v) = swap-done v
 
     access-at-done : (x : Checked) → CheckedRanged (cleared a) x → Done n start (accessAt m a x .machine)
     unfolding accessAt
-    access-at-done (Denied s d) r = faulted-done m k s d r
+    access-at-done (Denied s d) r = faulted-done s d r
     access-at-done (Passed p) r = passed-done p r (a .kind)
 
   access-done : (m : Machine) → Amid n start 1 m → Done n start (access m a .machine)

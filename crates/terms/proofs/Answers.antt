@@ -24,7 +24,7 @@ use Rattle.values.proofs.Cases.{case}
 use Rattle.words.specs.Words.{valueAt}
 use Rattle.words.specs.Signed.{loadAnswer}
 use Rattle.bus.specs.Physical.{aborts}
-use Rattle.buffer.specs.Buffer.{drained, ready}
+use Rattle.buffer.specs.Buffer.{drained}
 use Rattle.cache.specs.Dcache.{Side, find, hitLoad}
 use Rattle.translation.specs.Alignment.{cleared}
 use Rattle.translation.specs.Faults.{fills, buffers, fillStatus, otherStatus, faultSet}
@@ -55,7 +55,7 @@ pub data Accessed (s : Side) (a : Access) (x : Stepped) : Type 0 where
   stores : (v : ℕ) → a .kind ≡ Store v → x .answer ≡ answer.Value 0 → Accessed s a x
   swaps-cached : (at : ℕ) → x .answer ≡ loadAnswer (a .kind) (a .width) (valueAt (a .width) (s .cache .store) at) → Accessed s a x
   swaps-memory : (at : ℕ)
-      → x .answer ≡ loadAnswer (a .kind) (a .width) (valueAt (a .width) (ready (drained (s .backing)) at (a .width) .memory) at) → Accessed s a x
+      → x .answer ≡ loadAnswer (a .kind) (a .width) (valueAt (a .width) (drained (s .backing) .memory) at) → Accessed s a x
 
 -- a served call: a CP15 read answers a register of the machine that it leaves, a CP15 write 0
 abbrev pub Answers : Side → Call → Stepped → Type 0
@@ -100,7 +100,7 @@ module _ (P : Stepped → Type 0) where
 
       module _ (v : ℕ) where
         swap-miss-by : P (swapMiss m a v p)
-        unfolding swapMiss swapDirect loadUncached
+        unfolding swapMiss swapDirect
         swap-miss-by =
             case (aborts (physicalOf m) (p .address)) (λ h. rw h (fault (otherStatus p) (p .domain)))
             (λ h. rw h (value _ (swaps-memory _ refl)))
@@ -150,7 +150,7 @@ answers-value s (calls.Access a) x (of-cache at e) = subst IsValue (sym e) (load
 answers-value s (calls.Access a) x (stores v k e) = subst IsValue (sym e) tt
 answers-value s (calls.Access a) x (swaps-cached at e) = subst IsValue (sym e) (load-value (a .kind) (a .width) (valueAt (a .width) (s .cache .store) at))
 answers-value s (calls.Access a) x (swaps-memory at e) =
-    subst IsValue (sym e) (load-value (a .kind) (a .width) (valueAt (a .width) (ready (drained (s .backing)) at (a .width) .memory) at))
+    subst IsValue (sym e) (load-value (a .kind) (a .width) (valueAt (a .width) (drained (s .backing) .memory) at))
 answers-value s (Read t) x e = subst IsValue (sym e) tt
 answers-value s (Write t v) x e = subst IsValue (sym e) tt
 

@@ -85,17 +85,17 @@ module _ (n : ℕ) (b : Backing) (k : BackingIs n b) where
   ready-memory-below a c x h l =
       case (holds (b .buffer) a c) (λ t. rw t (drained-memory-below x)) (λ t. rw t (unmet-below n b k a c x t h l))
 
-  -- a drain that is no call leaves every stage as it was
-  pub staged-still : (pm : List ℕ) (stage : ℕ → Stage) → Staged b pm stage → Staged (drained b) pm stage
-  staged-still pm stage s =
-      record {
-        cleaned-below = λ x h. below-drained x ∙ s .cleaned-below x h;
-        drained-settled = λ x h. settled-drained pm x (settled-below pm x (s .drained-settled x h));
-      }
-
   pub staged-ready : (pm : List ℕ) (stage : ℕ → Stage) (a c : ℕ) → Staged b pm stage → Staged (ready b a c) pm stage
   unfolding ready
-  staged-ready pm stage a c s = case (holds (b .buffer) a c) (λ t. rw t (staged-still pm stage s)) (λ t. rw t s)
+  staged-ready pm stage a c s =
+      case (holds (b .buffer) a c)
+      (λ t.
+      rw t
+      (record {
+        cleaned-below = λ x h. below-drained x ∙ s .cleaned-below x h;
+        drained-settled = λ x h. settled-drained pm x (settled-below pm x (s .drained-settled x h));
+      }))
+      (λ t. rw t s)
 
   -- ---- the dirty halves of a line sent out
 

@@ -24,20 +24,9 @@ use Rattle.soundness_laws.proofs.CacheKept.{SideIs, halves-kept}
 use Rattle.terms.specs.History.{Stage, History}
 use Rattle.terms.specs.Rules.{isStored}
 use Rattle.terms.proofs.Invariant.{at, dirtyAt, Undirty, Staged, byWord, byLine, SideAgrees}
-use Rattle.terms.proofs.BackingAgrees.{below-drained, staged-still, below-ready, ready-memory-below, staged-ready}
+use Rattle.terms.proofs.BackingAgrees.{drained-memory-below, below-ready, ready-memory-below, staged-ready}
 use Rattle.terms.proofs.HeldLines.{missed-frame}
 use Rattle.terms.proofs.SentLines.{sent-below, sent-staged}
-
--- the buffer drained by a call that is no drain
-pub still-side : (n : ℕ) (s : Side) (k : SideIs n s) (pm : List ℕ) (h : History) → SideAgrees s pm h
-    → SideAgrees (sideFrom (s .cache) (drained (s .backing))) pm h
-still-side n s k pm h g =
-    record {
-      cache = g .cache;
-      under = λ x u. below-drained n (s .backing) (k .backing) x ∙ g .under x u;
-      words = staged-still n (s .backing) (k .backing) pm (byWord h) (g .words);
-      lines = staged-still n (s .backing) (k .backing) pm (byLine h) (g .lines);
-    }
 
 -- the buffer made ready for a read
 pub ready-side : (n : ℕ) (s : Side) (k : SideIs n s) (pm : List ℕ) (h : History) (a w : ℕ) → SideAgrees s pm h
@@ -60,6 +49,11 @@ module _ (n : ℕ) (s : Side) (k : SideIs n s) (pm : List ℕ) (h : History) (g 
   pub uncached-byte : (w x : ℕ) → pa .0 ≤ x → x < pa .0 + w → x / 32 ≡ pa .0 / 32 → getD (ready (s .backing) (pa .0) w .memory) x 0 ≡ getD pm x 0
   uncached-byte w x p q e =
       ready-memory-below n (s .backing) (k .backing) (pa .0) w x p q ∙ g .under x (λ i u f. absurd (not-held i u (f ∙ e)))
+
+  -- ---- a swap, once the buffer is drained
+
+  pub drained-byte : (x : ℕ) → x / 32 ≡ pa .0 / 32 → getD (drained (s .backing) .memory) x 0 ≡ getD pm x 0
+  drained-byte x e = drained-memory-below n (s .backing) (k .backing) x ∙ g .under x (λ i u f. absurd (not-held i u (f ∙ e)))
 
   -- ---- a fill
 

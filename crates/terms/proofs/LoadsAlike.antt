@@ -90,7 +90,7 @@ module _ (n : ℕ) (m : Machine) (p : Plain) (h : History) (a : Access) (l : Pla
         (line-value (s .side .cache) i
         (filled-byte n (m .side) (k .shared .side-is) (p .memory) h (k .shared .side) (cleared a) (l .address) (k .here) miss inside))
 
-    pub uncached-alike : aborts (plainPhysical p) (l .address) ≡ false → Alike n (loadUncached m a l) (plainLoad p a l) h
+    uncached-alike : aborts (plainPhysical p) (l .address) ≡ false → Alike n (loadUncached m a l) (plainLoad p a l) h
     unfolding loadUncached
     uncached-alike b =
         let w = in-line a (k .width) in

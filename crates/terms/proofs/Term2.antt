@@ -261,7 +261,7 @@ module _ (m : Machine) (a : Access) where
   store-found v p Nothing = store-missed v p
 
   swap-missed : (v : ℕ) (p : Place) → faultIn (swapMiss m a v p .answer) ≡ faultOf (searchRows Nothing true true p)
-  unfolding firstMet swapMiss swapDirect loadUncached faulted
+  unfolding firstMet swapMiss swapDirect faulted
   swap-missed v p =
       case (aborts (physicalOf m) (p .address)) (λ h. case (p .page) (λ g. rw (h, g)) (λ g. rw (h, g)))
       (λ h. rw h (load-passes (a .kind) (a .width) _))
