@@ -57,6 +57,7 @@ impl<'a> Proposer<'a> {
         }
         let line = self.line(rng);
         match rng.below(1000) {
+            770..=779 if self.swaps > 0 => self.store_and_swap(rng),
             0..=779 => self.access(rng),
             780..=859 => self.line_operation(rng),
             860..=879 => Call::drain(),
@@ -136,6 +137,15 @@ impl<'a> Proposer<'a> {
         } else {
             Call::store(width, address, value)
         }
+    }
+
+    /// A store and a swap of its word, which finds the bytes in the buffer where stores are buffered.
+    fn store_and_swap(&mut self, rng: &mut Rng) -> Call {
+        let word = self.line(rng) | (rng.below(8) * 4);
+        self.queue.push_back(Call::swap(4, word, rng.word()));
+        let width = rng.pick(&[1, 2, 4]);
+        let address = word | (rng.below(4) / width * width);
+        Call::store(width, address, store_value(rng, width))
     }
 
     /// Any address, or one near the lines in use.
