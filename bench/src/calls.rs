@@ -21,6 +21,8 @@ run: one run over a list of 4,096 calls again and again, from where the run befo
   buffered stores: stores to any block of memory that is bufferable and not cacheable
   merges: stores that join the newest entry of a full write buffer
   mixed: of 100 calls 75 loads and stores served everywhere, 15 CP15 calls, 10 faults
+  swap hits: swaps of bytes and words of one line
+  swap misses: swaps of bytes and words anywhere in memory that is bufferable and not cacheable; the buffer is empty, memory is read and written
 call: loads and stores that hit, one call each, on the full caches of the soundness lines";
 
 /// So many calls are in a list for `run`, and in one for `call`.
@@ -47,7 +49,16 @@ const MEMORY: u32 = DATA + (PAGE_COUNT + 1) * 0x1000;
 
 pub fn lines(earlier: Option<Earlier>) -> Vec<Line> {
     let rng = &mut Rng::new(1);
-    let lists = [hits, page_hits, random, buffered_stores, merges, mixed];
+    let lists = [
+        hits,
+        page_hits,
+        random,
+        buffered_stores,
+        merges,
+        mixed,
+        swap_hits,
+        swap_misses,
+    ];
     let lists = lists.iter().map(|of| run_line(of(rng), earlier));
     let mut lines: Vec<_> = lists.collect();
     lines.extend(TAGS.map(|tags| call_line(rng, tags, earlier)));
@@ -159,6 +170,22 @@ fn mixed(rng: &mut Rng) -> List {
     })
 }
 
+/// Swaps that hit one line.
+fn swap_hits(rng: &mut Rng) -> List {
+    let machine = served(&[Call::load(4, CACHED + DATA)]);
+    list("run, swap hits", machine, |calls| {
+        calls.push(swap(rng, CACHED + DATA))
+    })
+}
+
+/// Swaps in any line of uncached memory.
+fn swap_misses(rng: &mut Rng) -> List {
+    list("run, swap misses", served(&[]), |calls| {
+        let line = BUFFERED + DATA + rng.below(2048) * 32;
+        calls.push(swap(rng, line))
+    })
+}
+
 /// A load, a signed load or a store somewhere in a line.
 fn access(rng: &mut Rng, line: u32) -> Call {
     if rng.percent(40) {
@@ -180,6 +207,12 @@ fn store(rng: &mut Rng, line: u32) -> Call {
     let width = rng.pick(&[1, 2, 4]);
     let address = line + rng.below(32) / width * width;
     Call::store(width, address, value(rng, width))
+}
+
+fn swap(rng: &mut Rng, line: u32) -> Call {
+    let width = rng.pick(&[1, 4]);
+    let address = line + rng.below(32) / width * width;
+    Call::swap(width, address, value(rng, width))
 }
 
 fn value(rng: &mut Rng, width: u32) -> u32 {
@@ -211,6 +244,7 @@ fn served(calls: &[Call]) -> Machine {
 
 /// A line of `run` over a list.
 fn run_line(list: List, earlier: Option<Earlier>) -> Line {
+    let earlier = earlier.filter(|earlier| earlier.has(&list.calls));
     let (name, calls) = (list.name, Rc::new(numbers(&list.calls)));
     let mut answers = vec![0; RUN];
     // library and model agree, and begin behind the first run

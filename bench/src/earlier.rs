@@ -1,7 +1,10 @@
 //! An earlier library, out of a shared object, called as the linked one is.
 
+use crate::replay::Part;
 use sa110_compare::packed::{Cp15, Packed, State};
 use sa110_compare::side_by_side::{Numbers, Setting};
+use sa110_compare::NO_CALL;
+use sa110_model::Machine;
 use std::ffi::{c_char, c_int, c_void, CStr, CString};
 use std::mem::transmute;
 
@@ -40,13 +43,27 @@ type Run = unsafe extern "C" fn(
     usize,
 ) -> usize;
 type Sound = unsafe extern "C" fn(*const State, *const Cp15, usize) -> u32;
+type Replay = unsafe extern "C" fn(
+    *mut sa110::Replay,
+    *mut u8,
+    usize,
+    *mut u8,
+    usize,
+    *const u8,
+    usize,
+    u32,
+    *mut u8,
+    usize,
+) -> u32;
 
-/// The functions of an earlier library. Its state has the layout of include/sa110.h.
+/// The functions of an earlier library. Its state, and its record of a replay, have the layout of
+/// include/sa110.h.
 #[derive(Clone, Copy)]
 pub struct Earlier {
     call: Call,
     run: Run,
     sound: Option<Sound>,
+    replay: Option<Replay>,
 }
 
 impl Earlier {
@@ -77,11 +94,13 @@ impl Earlier {
         };
         let run = run.ok_or_else(|| missing("sa110_run"))?;
         let call = call.ok_or_else(|| missing("sa110_call"))?;
+        let replay = symbol(c"sa110_replay");
         Ok(unsafe {
             Earlier {
                 call: transmute::<*mut c_void, Call>(call),
                 run: transmute::<*mut c_void, Run>(run),
                 sound: sound.map(|f| transmute::<*mut c_void, Sound>(f)),
+                replay: replay.map(|f| transmute::<*mut c_void, Replay>(f)),
             }
         })
     }
@@ -90,6 +109,32 @@ impl Earlier {
     pub fn soundness(&self) -> Option<impl Fn(&Packed, usize) -> bool> {
         let sound = self.sound?;
         Some(move |p: &Packed, n| unsafe { sound(&p.state, &p.cp15, n) == 1 })
+    }
+
+    /// The replay of a part of a text, where the library has it.
+    pub fn replay(&self) -> Option<Box<Part>> {
+        let replay = self.replay?;
+        Some(Box::new(move |r, memory, store, text, ends, out| unsafe {
+            replay(
+                r,
+                memory.as_mut_ptr(),
+                memory.len(),
+                store.as_mut_ptr(),
+                store.len(),
+                text.as_ptr(),
+                text.len(),
+                ends.into(),
+                out.as_mut_ptr(),
+                out.len(),
+            )
+        }))
+    }
+
+    /// Whether it has calls of all these kinds.
+    pub fn has(&self, calls: &[sa110_model::Call]) -> bool {
+        let mut fresh = Setting::of(&Machine::fresh(Vec::new()));
+        let mut calls = calls.iter();
+        calls.all(|call| self.call(&mut fresh, &call.to_numbers()) != NO_CALL)
     }
 
     pub fn call(&self, s: &mut Setting, numbers: &Numbers) -> u64 {

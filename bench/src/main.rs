@@ -8,7 +8,7 @@ mod replay;
 mod soundness;
 
 use earlier::Earlier;
-use measure::{measure, Line, Measured};
+use measure::{earlier_columns, earlier_names, measure, Line, Measured};
 
 const ROUNDS: usize = 1000;
 
@@ -16,13 +16,13 @@ const HOW: &str = "\
 use: cargo run --release --offline [-- [replay] ROUNDS [EARLIER.so]]
   replay      only the replay of traces is measured
   ROUNDS      how often each side is measured, at least 1; 1000 if left out
-  EARLIER.so  a shared object of an earlier library, which is measured too
+  EARLIER.so  a shared object of an earlier library, which is measured too; one of the library itself shows what linking alone does
 tools/library writes the library that is measured. A static library becomes a shared object by
   gcc -shared -o EARLIER.so -Wl,--whole-archive libsa110.a -Wl,--no-whole-archive";
 
 const WHAT: &str = "\
 library: the proved library, called through its functions for C. model: the second model, in Rust.
-earlier: the library in the shared object, where one is named, lent the same state; - where it has no such function.
+earlier: the library in the shared object, where one is named, lent the same state; - where it has no such function or call.
 ns a call: processor time of the one thread, least of the rounds (median). ratio: library / model and library / earlier, by the least.
 soundness: the test of refusal 3 on one sound state again and again, 512 lines, 32 TLB entries, 8 buffer entries, 64 KB of memory; the library
   compares all tags of a set, four at a time, wherever the lines lie, and the model two only if they agree in their low six bits
@@ -46,7 +46,7 @@ fn main() {
     }
     println!("{}", replay::WHAT);
     println!("{rounds} rounds, each side in turn\n");
-    if let Err(problem) = replay::print_rows(rounds) {
+    if let Err(problem) = replay::print_rows(rounds, earlier) {
         eprintln!("replay: {problem}");
         std::process::exit(1);
     }
@@ -63,10 +63,7 @@ fn calls(rounds: usize, earlier: Option<Earlier>) {
         "{:<28}{:>18}{:>18}{:>8}",
         "ns a call", "library", "model", "ratio"
     );
-    match earlier {
-        Some(_) => println!("{:>18}{:>8}", "earlier", "ratio"),
-        None => println!(),
-    }
+    println!("{}", earlier_names(earlier.is_some()));
     for line in &mut lines {
         let measured = measure(line, rounds);
         println!("{}", row(&line.name, &measured, earlier.is_some()));
@@ -80,14 +77,7 @@ fn row(name: &str, measured: &Measured, named: bool) -> String {
     let ratio = library.least / model.least;
     let (shown, model) = (library.to_string(), model.to_string());
     let row = format!("{name:<28}{shown:>18}{model:>18}{ratio:>8.2}");
-    match measured.earlier {
-        Some(earlier) => {
-            let ratio = library.least / earlier.least;
-            format!("{row}{:>18}{ratio:>8.3}", earlier.to_string())
-        }
-        None if named => format!("{row}{:>18}{:>8}", "-", "-"),
-        None => row,
-    }
+    row + &earlier_columns(library, measured.earlier, named)
 }
 
 /// The number of rounds and the earlier library that the arguments ask for, or what is wrong with them.

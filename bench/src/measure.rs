@@ -35,6 +35,28 @@ impl fmt::Display for Times {
     }
 }
 
+/// The names of an earlier library's columns, where one is named.
+pub fn earlier_names(named: bool) -> String {
+    if named {
+        format!("{:>18}{:>8}", "earlier", "ratio")
+    } else {
+        String::new()
+    }
+}
+
+/// An earlier library's columns, where one is named: its times, and the ratio library / earlier; - where it
+/// was not measured.
+pub fn earlier_columns(library: Times, earlier: Option<Times>, named: bool) -> String {
+    match earlier {
+        Some(earlier) => {
+            let ratio = library.least / earlier.least;
+            format!("{:>18}{ratio:>8.3}", earlier.to_string())
+        }
+        None if named => format!("{:>18}{:>8}", "-", "-"),
+        None => String::new(),
+    }
+}
+
 /// A round takes about so many nanoseconds.
 const ROUND: u64 = 200_000;
 

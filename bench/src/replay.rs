@@ -1,11 +1,13 @@
 //! The replay of traces kept as text, through files.
 
-use crate::measure::{measure_sides, Side, Times};
+use crate::earlier::Earlier;
+use crate::measure::{earlier_columns, earlier_names, measure_sides, Side, Times};
 use sa110_compare::packed::Packed;
 use sa110_model::random::texts::text_of;
 use sa110_model::random::Rng;
 use sa110_model::replay::{stream, MEMORY_BYTES};
 use sa110_model::Call;
+use std::cell::RefCell;
 use std::fs::File;
 use std::hint::black_box;
 use std::io::{self, BufReader, BufWriter, Read, Seek, Write};
@@ -16,6 +18,7 @@ pub const WHAT: &str = "\
 replay: a text of 16,384 lines again and again, each time on a fresh machine with 65,536 zero bytes; ns a line
   library, model: the text is a temporary file, read in blocks of 65,536 bytes; what is printed goes to another temporary file, overwritten
     from its front, in blocks of about 65,536 bytes. The library replays through sa110_replay; the model by read_until, split, parse, writeln
+  earlier: as library, through the shared object's sa110_replay, where one is named; - where it has none
   run: the library's run over the same calls, parsed before, 1,024 at a time; nothing is read, parsed or printed. difference: library - run
   flat: loads and stores anywhere in memory, without translation
   hits: the first lines write page tables and switch on MMU, Dcache and write buffer; then loads and stores of the 512 lines of 4 small pages
@@ -34,13 +37,18 @@ const BATCH: usize = 1_024;
 const PAGES: u32 = 0x4000;
 const DATA: u32 = 0x5000;
 
-/// Prints a row for each text.
-pub fn print_rows(rounds: usize) -> io::Result<()> {
+/// A library's replay of a part of a text: record, memory, store, the part, whether the text ends with it, and
+/// the slice for what is printed.
+pub type Part = dyn Fn(&mut sa110::Replay, &mut [u8], &mut [u8], &[u8], bool, &mut [u8]) -> u32;
+
+/// Prints a row for each text, with the columns of an earlier library where one is named.
+pub fn print_rows(rounds: usize, earlier: Option<Earlier>) -> io::Result<()> {
     let rng = &mut Rng::new(1);
-    println!(
+    print!(
         "{:<28}{:>18}{:>18}{:>8}{:>18}{:>12}",
         "ns a line", "library", "model", "ratio", "run", "difference"
     );
+    println!("{}", earlier_names(earlier.is_some()));
     let texts = [
         ("replay, flat", flat(rng)),
         ("replay, hits", hits(rng)),
@@ -48,13 +56,20 @@ pub fn print_rows(rounds: usize) -> io::Result<()> {
         ("replay, long lines", long_lines(rng)),
     ];
     for (name, calls) in texts {
-        let [library, model, run] = measured(name, &calls, rounds)?;
-        let ratio = library.least / model.least;
-        let difference = library.least - run.least;
-        let [library, model, run] = [library, model, run].map(|times| times.to_string());
-        println!("{name:<28}{library:>18}{model:>18}{ratio:>8.2}{run:>18}{difference:>12.0}");
+        let times = measured(name, &calls, rounds, earlier)?;
+        println!("{}", row(name, &times, earlier.is_some()));
     }
     Ok(())
+}
+
+/// A row: the times of library, model and run and, where it has a replay, of the earlier library.
+fn row(name: &str, times: &[Times], named: bool) -> String {
+    let [library, model, run] = [times[0], times[1], times[2]];
+    let ratio = library.least / model.least;
+    let difference = library.least - run.least;
+    let [shown, model, run] = [library, model, run].map(|times| times.to_string());
+    let row = format!("{name:<28}{shown:>18}{model:>18}{ratio:>8.2}{run:>18}{difference:>12.0}");
+    row + &earlier_columns(library, times.get(3).copied(), named)
 }
 
 fn flat(rng: &mut Rng) -> Vec<Call> {
@@ -157,46 +172,48 @@ impl Drop for Temporary {
     }
 }
 
-/// The times of library, model and run.
-fn measured(name: &str, calls: &[Call], rounds: usize) -> io::Result<[Times; 3]> {
-    let text = text_of(calls);
-    let input = Temporary::new("in", &text)?;
-    let outputs = [
-        Temporary::new("library", &[])?,
-        Temporary::new("model", &[])?,
-    ];
-    // all three agree
+/// The times of library, model and run and, where it has a replay, of the earlier library.
+fn measured(
+    name: &str,
+    calls: &[Call],
+    rounds: usize,
+    earlier: Option<Earlier>,
+) -> io::Result<Vec<Times>> {
+    let input = Temporary::new("in", &text_of(calls))?;
+    let output = |name| Temporary::new(name, &[]);
+    let outputs = [output("library")?, output("earlier")?, output("model")?];
+    let mut parts: Vec<Box<Part>> = vec![Box::new(sa110::Replay::part)];
+    parts.extend(earlier.and_then(|earlier| earlier.replay()));
+    let mut run = Run::new(calls.iter().flat_map(Call::to_numbers).collect());
     let mut library = Library::new();
-    library.replay(&input.0, &mut File::create(&outputs[0].0)?)?;
-    by_model(&input.0, &mut File::create(&outputs[1].0)?)?;
-    let printed = std::fs::read(&outputs[0].0)?;
-    let same = printed == std::fs::read(&outputs[1].0)?;
-    assert!(same, "{name}: outputs differ");
-    let numbers: Vec<u32> = calls.iter().flat_map(Call::to_numbers).collect();
-    let mut run = Run::new(numbers);
-    let answers = run.all();
-    let same = printed == lines_of(calls, &answers) && library.left_as(&run);
-    assert!(same, "{name}: replay and run differ");
+    by_model(&input.0, &mut File::create(&outputs[2].0)?)?;
+    let printed = std::fs::read(&outputs[2].0)?;
+    let same = printed == lines_of(calls, &run.all());
+    assert!(same, "{name}: model and run differ");
+    for (part, output) in parts.iter().zip(&outputs) {
+        library.replay(part, &input.0, &mut File::create(&output.0)?)?;
+        let same = printed == std::fs::read(&output.0)? && library.left_as(&run);
+        assert!(same, "{name}: replay and run differ");
+    }
     let hits = run.packed.state.counts.hits as usize;
     assert!(
         name != "replay, hits" || hits > LINES * 9 / 10,
         "{hits} hits"
     );
-    let sides: [Side; 3] = [
-        file_side(&input, &outputs[0], move |input, output| {
-            library.replay(input, output)
-        })?,
-        file_side(&input, &outputs[1], by_model)?,
-        Box::new(move |turns| {
-            for _ in 0..turns {
-                run.turn();
-            }
-        }),
+    let library = Rc::new(RefCell::new(library));
+    let mut replays = parts.into_iter().zip(&outputs).map(|(part, output)| {
+        let library = Rc::clone(&library);
+        file_side(&input, output, move |input, output| {
+            library.borrow_mut().replay(&part, input, output)
+        })
+    });
+    let mut sides = vec![
+        replays.next().expect("the library's")?,
+        file_side(&input, &outputs[2], by_model)?,
+        Box::new(move |turns| (0..turns).for_each(|_| run.turn())),
     ];
-    let [mut library, mut model, mut run] = sides;
-    let sides = vec![&mut library, &mut model, &mut run];
-    let times = measure_sides(sides, LINES, rounds);
-    Ok(times.try_into().expect("three sides"))
+    sides.extend(replays.next().transpose()?);
+    Ok(measure_sides(sides.iter_mut().collect(), LINES, rounds))
 }
 
 /// A side that replays one file into another again and again.
@@ -222,7 +239,7 @@ fn by_model(input: &Path, output: &mut File) -> io::Result<()> {
     Ok(())
 }
 
-/// The library's side: blocks for input and output, and what is lent.
+/// What a library's replay is lent, and blocks for input and output. Both libraries have the same.
 struct Library {
     memory: Vec<u8>,
     store: Vec<u8>,
@@ -242,7 +259,7 @@ impl Library {
         }
     }
 
-    fn replay(&mut self, input: &Path, output: &mut File) -> io::Result<()> {
+    fn replay(&mut self, part: &Part, input: &Path, output: &mut File) -> io::Result<()> {
         let Library {
             memory,
             store,
@@ -259,8 +276,8 @@ impl Library {
             let length = input.read(block)?;
             let mut text = &block[..length];
             loop {
-                let answer = replay.part(memory, store, text, length == 0, &mut out[filled..]);
-                assert_eq!(answer, 0);
+                let (ends, room) = (length == 0, &mut out[filled..]);
+                assert_eq!(part(&mut replay, memory, store, text, ends, room), 0);
                 text = &text[replay.taken..];
                 filled += replay.written;
                 // as long as there is room for what one call may print

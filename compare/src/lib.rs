@@ -3,6 +3,7 @@
 
 pub mod damage;
 pub mod full;
+pub mod met;
 pub mod packed;
 pub mod replays;
 pub mod side_by_side;

@@ -383,6 +383,8 @@ pub struct Printed {
     negative: u64,
     statuses: [u64; 16],
     refusals: [u64; 14],
+    /// Swaps, which depart from the form.
+    swaps: u64,
 }
 
 impl Printed {
@@ -403,6 +405,10 @@ impl Printed {
                 ("1", _) => self.statuses[value as usize % 16] += 1,
                 _ => self.refusals[value as usize] += 1,
             }
+            if line.starts_with(b"5,") {
+                assert_eq!((kind, value), ("2", 13), "a line with kind 5");
+                self.swaps += 1;
+            }
         }
     }
 
@@ -420,6 +426,7 @@ impl Printed {
         for number in 1..=13 {
             rows.push((format!("refusal {number}"), self.refusals[number]));
         }
+        rows.push(("refusal 13 of a line with kind 5".to_string(), self.swaps));
         for status in STATUSES {
             let number = status as usize;
             rows.push((format!("fault status {number}"), self.statuses[number]));

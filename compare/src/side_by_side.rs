@@ -1,10 +1,10 @@
 //! Library and second model side by side: the same calls from the same place, with everything that
 //! they answer and leave compared.
 
+use crate::met::Met;
 use crate::packed::{OfModel, Packed};
 use crate::{shrunk, NO_CALL};
 use sa110::{Look, LINE_BYTES};
-use sa110_model::answers::STATUSES;
 use sa110_model::calls::FIELDS;
 use sa110_model::coverage::{Coverage, Unwatched, Watch};
 use sa110_model::library::{self, RunError};
@@ -86,7 +86,7 @@ impl Sides {
             None => (NO_CALL, before),
             Some(call) => {
                 let answer = self.model.call_watched(&call, watch);
-                watch.note_answer(&answer);
+                watch.note_answer(&call, &answer);
                 let left = match answer {
                     Answer::Refused(_) => before,
                     _ => self.packed_model(),
@@ -191,7 +191,7 @@ fn place(part: &[u8], memory: &[u8], store: &[u8]) -> Look {
 
 /// The address to look at after a call: the access's, or the one that a CP15 write may give.
 fn looked_at(numbers: &Numbers) -> u32 {
-    numbers[if numbers[0] < 3 { 3 } else { 4 }]
+    numbers[if matches!(numbers[0], 3 | 4) { 4 } else { 3 }]
 }
 
 /// What differs between two states and records, the first place of each list.
@@ -224,69 +224,6 @@ fn first<T: PartialEq + fmt::Debug>(name: &str, proved: &[T], model: &[T]) -> Op
     };
     let (p, m) = (&proved[i], &model[i]);
     Some(format!("{name}{at}: proved {p:X?}, model {m:X?}"))
-}
-
-/// How often each kind of answer was compared.
-#[derive(Clone, Default)]
-pub struct Met {
-    pub calls: u64,
-    statuses: [u64; 16],
-    refusals: [u64; 13],
-    no_calls: u64,
-    /// Looks that found nothing, a line of the cache store, a line of memory.
-    looks: [u64; 3],
-}
-
-impl Met {
-    fn note_look(&mut self, found: Look) {
-        self.looks[match found {
-            Look::Nowhere => 0,
-            Look::OfStore(_) => 1,
-            Look::OfMemory(_) => 2,
-        }] += 1;
-    }
-
-    fn note(&mut self, code: u64) {
-        self.calls += 1;
-        match code >> 32 {
-            0 => {}
-            1 => self.statuses[code as usize % 16] += 1,
-            2 => self.refusals[code as u32 as usize] += 1,
-            _ => self.no_calls += 1,
-        }
-    }
-
-    fn add(&mut self, other: &Met) {
-        self.calls += other.calls;
-        self.no_calls += other.no_calls;
-        let statuses = self.statuses.iter_mut().zip(other.statuses);
-        let refusals = self.refusals.iter_mut().zip(other.refusals);
-        let looks = self.looks.iter_mut().zip(other.looks);
-        for (sum, count) in statuses.chain(refusals).chain(looks) {
-            *sum += count;
-        }
-    }
-
-    fn rows(&self) -> Vec<(String, u64)> {
-        let mut rows = vec![("numbers that are no call".to_string(), self.no_calls)];
-        for number in 1..=12 {
-            rows.push((format!("refusal {number}"), self.refusals[number]));
-        }
-        for status in STATUSES {
-            let number = status as usize;
-            rows.push((format!("fault status {number}"), self.statuses[number]));
-        }
-        for (place, count) in ["nowhere", "cache store", "memory"].iter().zip(self.looks) {
-            rows.push((format!("look, {place}"), count));
-        }
-        rows
-    }
-
-    /// The refusals and statuses that never occurred.
-    pub fn missing(&self) -> Vec<String> {
-        let rows = self.rows().into_iter();
-        rows.filter(|row| row.1 == 0).map(|row| row.0).collect()
-    }
 }
 
 /// What was compared.
@@ -361,7 +298,7 @@ fn by_call<T: Watch>(
         if small {
             sides.bytes().map_err(said)?;
         }
-        met.note(code);
+        met.note(numbers, code);
         if i % 2 == 0 {
             met.note_look(sides.look(looked_at(numbers)).map_err(said)?);
         }
@@ -397,9 +334,11 @@ fn by_runs(setting: &Setting, calls: &[Numbers], piece: usize, met: &mut Met) ->
             Ok(found) => met.note_look(found),
             Err(what) => return Some(said(what)),
         }
-        answers[..made].iter().for_each(|code| met.note(*code));
+        for (numbers, code) in part.iter().zip(&answers[..made]) {
+            met.note(numbers, *code);
+        }
         if made < part.len() {
-            met.note(NO_CALL);
+            met.note(&part[made], NO_CALL);
             rest = &rest[made + 1..];
         } else {
             rest = &rest[made..];

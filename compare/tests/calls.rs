@@ -269,6 +269,8 @@ fn random_lists_and_states() {
     let (by_call, by_run) = (tally.by_call.calls, tally.by_run.calls);
     println!("calls compared {by_call} by call, {by_run} by run");
     println!("{tally}");
+    println!("what the second model did in the calls one by one:");
+    println!("{}", tally.events);
     println!("damages compared:");
     for (damage, count) in DAMAGES.iter().zip(compared.damages) {
         println!("{count:>8}  {}", damage.name);
@@ -390,7 +392,7 @@ fn numbers_that_are_no_call() {
                 let call = [kind, privileged, 4, 0x4000, 7];
                 let mut sides = Sides::of(setting);
                 let answer = sides.call(&call, &mut Unwatched);
-                let is_call = kind < 5 && privileged < 2;
+                let is_call = kind < 6 && privileged < 2;
                 assert_eq!(
                     answer.as_ref().map(|code| *code != NO_CALL),
                     Ok(is_call),

@@ -55,26 +55,35 @@ fn random_lists() {
     let seed = from_environment("SEED", 1);
     let runs = from_environment("RUNS", 3_000);
     println!("seed {seed}, {runs} runs of each kind");
-    let mut calls = 0;
+    let (mut calls, mut swaps) = (0, 0);
+    let mut count = |list: &[Call]| {
+        calls += list.len();
+        let swap = |call: &&Call| matches!(call, Call::Swap { .. });
+        swaps += list.iter().filter(swap).count();
+    };
     for n in 0..runs {
         let mut rng = Rng::of_run(seed, n);
         let length = 50 + rng.below(400) as usize;
         let run = free(&mut rng, length);
-        calls += run.calls.len();
+        count(&run.calls);
         compare(
             &run.memory,
             &run.calls,
             &format!("free run {n} of seed {seed}"),
         );
         let run = guided(&mut rng, length, Rules::ALL).run;
-        calls += run.calls.len();
+        count(&run.calls);
         compare(
             &run.memory,
             &run.calls,
             &format!("guided run {n} of seed {seed}"),
         );
     }
-    println!("calls compared {calls}");
+    println!("calls compared {calls}, {swaps} of them swaps");
+    // fewer runs need not meet everything
+    if runs >= 3_000 {
+        assert!(calls >= 1_000_000 && swaps >= 50_000);
+    }
 }
 
 #[test]
@@ -107,7 +116,7 @@ fn lengths() {
     assert_eq!(plain_run(&mut memory, &calls, &mut short).made, 1);
     // the run stops at five numbers that are no call
     let mut odd = calls.clone();
-    odd[5] = 5;
+    odd[5] = 6;
     let mut answers = [9; 3];
     assert_eq!(plain_run(&mut memory, &odd, &mut answers).made, 1);
     assert_eq!(answers[1..], [9, 9]);

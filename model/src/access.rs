@@ -44,6 +44,18 @@ impl Place {
         }
     }
 
+    /// Does a load that misses here fill a line?
+    #[inline]
+    pub fn fills(&self, registers: &PlainRegisters) -> bool {
+        registers.has(M) && registers.has(C) && self.cacheable
+    }
+
+    /// Is a store that misses here buffered?
+    #[inline]
+    pub fn buffers(&self, registers: &PlainRegisters) -> bool {
+        registers.has(M) && registers.has(W) && (self.cacheable || self.bufferable)
+    }
+
     /// A line fill is outside memory.
     pub fn fill_abort(&self) -> Abort {
         self.abort(Status::FillSection, Status::FillPage)
@@ -75,7 +87,7 @@ pub fn aligned(registers: &PlainRegisters, access: &Access) -> Result<u32, Abort
     Ok(access.address - low)
 }
 
-/// Checks the rights of an access at a mapping.
+/// Checks the rights of an access at a mapping. A swap is checked as a store.
 #[inline]
 pub fn check_rights(
     registers: &PlainRegisters,
@@ -89,7 +101,7 @@ pub fn check_rights(
         registers.has(S),
         registers.has(R),
         access.privileged,
-        access.is_store(),
+        access.stores().is_some(),
     );
     let status = match (rights::TABLE[index], entry.is_page()) {
         (rights::ALLOWED, _) => return Ok(()),
@@ -132,6 +144,9 @@ fn reach<T: Watch>(lent: &mut Lent, access: &Access, watch: &mut T) -> Result<u3
     let address = aligned(&lent.registers.plain, access)?;
     if address != access.address {
         watch.note(Event::LowBitsCleared);
+        if access.is_swap() {
+            watch.note(Event::SwapLowBitsCleared);
+        }
     }
     let place = translate(lent, access, address, watch)?;
     if let Some(index) = lent.state.cache.find(address) {
@@ -139,6 +154,7 @@ fn reach<T: Watch>(lent: &mut Lent, access: &Access, watch: &mut T) -> Result<u3
     }
     match access.kind {
         Kind::Store(value) => store_miss(lent, access, &place, value, watch),
+        Kind::Swap(value) => swap_miss(lent, access, &place, value, watch),
         _ => load_miss(lent, access, address, &place, watch),
     }
 }
@@ -163,7 +179,14 @@ fn translate<T: Watch>(
         None => walk_into_tlb(lent, address, watch)?,
     };
     let entry = &lent.state.tlb[index];
-    check_rights(&lent.registers.plain, entry, address, access)?;
+    let registers = &lent.registers.plain;
+    check_rights(registers, entry, address, access).inspect_err(|_| {
+        let kind = Kind::Load;
+        let load = Access { kind, ..*access };
+        if access.is_swap() && check_rights(registers, entry, address, &load).is_ok() {
+            watch.note(Event::SwapWhereLoadsAlone);
+        }
+    })?;
     Ok(Place::mapped(entry, address))
 }
 
@@ -185,7 +208,7 @@ fn walk_into_tlb<T: Watch>(lent: &mut Lent, address: u32, watch: &mut T) -> Resu
     ))
 }
 
-/// A hit serves loads and stores with no bounds test; a store marks its half.
+/// A hit serves loads, stores and swaps with no bounds test; a store or swap marks its half.
 #[inline]
 fn hit<T: Watch>(
     lent: &mut Lent,
@@ -198,19 +221,22 @@ fn hit<T: Watch>(
     if !lent.registers.plain.has(C) {
         watch.note(Event::HitWhileDisabled);
     }
+    watch.note(match access.kind {
+        Kind::Store(_) => Event::HitStore,
+        Kind::Swap(_) => Event::HitSwap,
+        _ => Event::HitLoad,
+    });
     let at = store_index(index, address);
-    match access.kind {
-        Kind::Store(value) => {
-            watch.note(Event::HitStore);
-            words::write(lent.store, at, access.width, value);
-            lent.state.cache.lines[index].dirty[half_of(address)] = 1;
-            0
-        }
-        _ => {
-            watch.note(Event::HitLoad);
-            words::read(lent.store, at, access.width)
-        }
+    let held = if access.loads() {
+        words::read(lent.store, at, access.width)
+    } else {
+        0
+    };
+    if let Some(value) = access.stores() {
+        words::write(lent.store, at, access.width, value);
+        lent.state.cache.lines[index].dirty[half_of(address)] = 1;
     }
+    held
 }
 
 /// A load that misses fills a line, or reads memory past the cache.
@@ -222,7 +248,7 @@ fn load_miss<T: Watch>(
     watch: &mut T,
 ) -> Result<u32, Abort> {
     let inside = lent.has(place.physical);
-    if lent.registers.plain.has(M) && lent.registers.plain.has(C) && place.cacheable {
+    if place.fills(&lent.registers.plain) {
         if !inside {
             return Err(place.fill_abort());
         }
@@ -255,8 +281,7 @@ fn store_miss<T: Watch>(
     watch: &mut T,
 ) -> Result<u32, Abort> {
     let inside = lent.has(place.physical);
-    let registers = &lent.registers.plain;
-    let buffered = registers.has(M) && registers.has(W) && (place.cacheable || place.bufferable);
+    let buffered = place.buffers(&lent.registers.plain);
     let buffer = &mut lent.state.buffer;
     match (buffered, inside) {
         (true, true) => {
@@ -275,4 +300,47 @@ fn store_miss<T: Watch>(
         }
     }
     Ok(0)
+}
+
+/// A swap that misses drains the buffer, reads memory, then writes it. A read outside memory is found
+/// before the drain and followed by no write.
+fn swap_miss<T: Watch>(
+    lent: &mut Lent,
+    access: &Access,
+    place: &Place,
+    value: u32,
+    watch: &mut T,
+) -> Result<u32, Abort> {
+    note_swap_miss(lent, access, place, watch);
+    if !lent.has(place.physical) {
+        return Err(place.other_abort());
+    }
+    lent.state.buffer.drain(lent.memory);
+    let at = place.physical as usize;
+    let old = words::read(lent.memory, at, access.width);
+    words::write(lent.memory, at, access.width, value);
+    Ok(old)
+}
+
+/// Notes what a load and a store do at the place of a swap that misses, and what the buffer holds.
+fn note_swap_miss<T: Watch>(lent: &Lent, access: &Access, place: &Place, watch: &mut T) {
+    let (registers, buffer) = (&lent.registers.plain, &lent.state.buffer);
+    let (fills, buffers) = (place.fills(registers), place.buffers(registers));
+    let inside = lent.has(place.physical);
+    watch.note(match (fills, buffers, inside) {
+        (true, _, true) => Event::SwapWhereLoadsFill,
+        (false, true, true) => Event::SwapWhereStoresBuffer,
+        (false, false, true) => Event::SwapWhereNeither,
+        (true, _, false) => Event::SwapOutsideWhereLoadsFill,
+        (false, true, false) => Event::SwapOutsideWhereStoresBuffer,
+        (false, false, false) => Event::SwapOutsideWhereNeither,
+    });
+    match (buffer.entries > 0, inside) {
+        (true, true) => watch.note(Event::DrainBeforeSwap),
+        (true, false) => watch.note(Event::NoDrainBeforeSwapOutside),
+        (false, _) => {}
+    }
+    if inside && buffer.overlaps_access(place.physical, access.width) {
+        watch.note(Event::DrainOfSwapped);
+    }
 }

@@ -63,7 +63,7 @@ impl Fault {
 pub enum Answer {
     /// Refusal 1 to 12.
     Refused(u32),
-    /// A load's or a CP15 read's value; 0 for a served store or write.
+    /// A load's or a CP15 read's value, a swap's old value; 0 for a served store or write.
     Value(u32),
     /// A signed load's value.
     Signed(i32),

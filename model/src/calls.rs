@@ -1,4 +1,4 @@
-//! Calls: data accesses and CP15 reads and writes, and their form as five numbers.
+//! Calls: data accesses, swaps among them, and CP15 reads and writes; and their form as five numbers.
 
 use std::fmt;
 
@@ -15,6 +15,13 @@ pub enum Call {
         address: u32,
     },
     Store {
+        privileged: bool,
+        width: u32,
+        address: u32,
+        value: u32,
+    },
+    /// A swap of a byte or a word (document 02, Two).
+    Swap {
         privileged: bool,
         width: u32,
         address: u32,
@@ -40,6 +47,8 @@ pub enum Kind {
     Load,
     SignedLoad,
     Store(u32),
+    /// The place is loaded, then this value stored.
+    Swap(u32),
 }
 
 /// The arguments of a data access.
@@ -52,8 +61,23 @@ pub struct Access {
 }
 
 impl Access {
-    pub fn is_store(&self) -> bool {
-        matches!(self.kind, Kind::Store(_))
+    /// Does it answer what its place holds?
+    #[inline]
+    pub fn loads(&self) -> bool {
+        !matches!(self.kind, Kind::Store(_))
+    }
+
+    /// The value that its place gets, if it gets one.
+    #[inline]
+    pub fn stores(&self) -> Option<u32> {
+        match self.kind {
+            Kind::Store(value) | Kind::Swap(value) => Some(value),
+            Kind::Load | Kind::SignedLoad => None,
+        }
+    }
+
+    pub fn is_swap(&self) -> bool {
+        matches!(self.kind, Kind::Swap(_))
     }
 }
 
@@ -62,7 +86,7 @@ impl Access {
 pub const FIELDS: usize = 5;
 
 impl Call {
-    /// The call that five numbers mean; none with a kind above 4 or privileged above 1.
+    /// The call that five numbers mean; none with a kind above 5 or privileged above 1.
     pub fn from_numbers(numbers: &[u32; FIELDS]) -> Option<Call> {
         let [kind, privileged, second, third, value] = *numbers;
         if privileged > 1 {
@@ -95,6 +119,12 @@ impl Call {
                 register: second,
                 opcode2: third / 16,
                 crm: third % 16,
+                value,
+            }),
+            5 => Some(Call::Swap {
+                privileged,
+                width: second,
+                address: third,
                 value,
             }),
             _ => None,
@@ -134,6 +164,12 @@ impl Call {
                 assert!(crm < 16 && opcode2 < 1 << 28);
                 [4, privileged as u32, register, opcode2 * 16 + crm, value]
             }
+            Call::Swap {
+                privileged,
+                width,
+                address,
+                value,
+            } => [5, privileged as u32, width, address, value],
         }
     }
 
@@ -156,6 +192,12 @@ impl Call {
                 address,
                 value,
             } => (Kind::Store(value), privileged, width, address),
+            Call::Swap {
+                privileged,
+                width,
+                address,
+                value,
+            } => (Kind::Swap(value), privileged, width, address),
             _ => return None,
         };
         Some(Access {
@@ -178,6 +220,16 @@ impl Call {
     /// A privileged store.
     pub fn store(width: u32, address: u32, value: u32) -> Call {
         Call::Store {
+            privileged: true,
+            width,
+            address,
+            value,
+        }
+    }
+
+    /// A privileged swap.
+    pub fn swap(width: u32, address: u32, value: u32) -> Call {
+        Call::Swap {
             privileged: true,
             width,
             address,
@@ -260,6 +312,16 @@ impl fmt::Display for Call {
             } => write!(
                 out,
                 "{} store {width} at {address:X} of {value:X}",
+                mode(privileged)
+            ),
+            Call::Swap {
+                privileged,
+                width,
+                address,
+                value,
+            } => write!(
+                out,
+                "{} swap {width} at {address:X} for {value:X}",
                 mode(privileged)
             ),
             Call::Read {

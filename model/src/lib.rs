@@ -1,6 +1,7 @@
 //! Second model of the StrongARM SA-110's data side, written from the papers alone.
 //!
-//! "Document 01" is the scope paper; 000 is the reference manual, 001 the application note.
+//! "Document 01" is the scope paper, document 02 lists requests for changes; 000 is the reference manual,
+//! 001 the application note.
 //! The modules follow document 01:
 //!
 //! | document 01 | modules |
@@ -13,7 +14,7 @@
 //! | Rules for a run, the plain machine | `plain`, `rules`, `term3` |
 //!
 //! `library` holds the entry points: `start`, `call`, `run`, `look`. `replay` replays traces kept as text
-//! (document 02, One).
+//! (document 02, One). The swap (document 02, Two) is a data access.
 //! `random` makes runs and states; `coverage` counts what happened in them.
 
 pub mod access;

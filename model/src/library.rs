@@ -119,7 +119,7 @@ pub fn step<T: Watch>(lent: &mut Lent, call: &Call, watch: &mut T) -> Answer {
 pub enum RunError {
     /// The list of calls is not in fives, or the answers are not one a call. Nothing was done.
     Lengths,
-    /// The call at this place, from 0, has a kind above 4 or privileged above 1.
+    /// The call at this place, from 0, has a kind above 5 or privileged above 1.
     /// The calls before it were served and answered; nothing was done after them.
     NotACall(usize),
 }

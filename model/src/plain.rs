@@ -4,7 +4,7 @@ use crate::access::{aligned, check_rights, Place};
 use crate::answers::{Abort, Answer, Fault};
 use crate::calls::{Access, Call, Kind};
 use crate::refusals;
-use crate::registers::{operation, Operation, C, M, W};
+use crate::registers::{operation, Operation, M};
 use crate::state::{PlainRegisters, LINE_BYTES};
 use crate::walk::{walk, Walk};
 use crate::words;
@@ -27,7 +27,7 @@ pub struct Reached {
     pub inside: bool,
 }
 
-/// A store that is neither dropped nor faulted.
+/// What a store or a swap writes, if it is neither dropped nor faults.
 #[derive(Clone, Copy, Debug, PartialEq, Eq)]
 pub struct Stored {
     pub physical: u32,
@@ -154,7 +154,7 @@ impl Plain {
         deed
     }
 
-    /// Alignment, then the walk and rights if M is set, then memory at once.
+    /// Alignment, then the walk and rights if M is set, then memory at once. A swap loads and stores together.
     fn reach(&self, access: &Access, deed: &mut Deed) -> Result<u32, Abort> {
         let address = aligned(&self.registers, access)?;
         let place = if self.registers.has(M) {
@@ -176,12 +176,12 @@ impl Plain {
         if !inside {
             return self.outside(access, &place);
         }
-        if let Kind::Store(value) = access.kind {
-            deed.stored = Some(Stored {
-                physical: place.physical,
-                width: access.width,
-                value,
-            });
+        deed.stored = access.stores().map(|value| Stored {
+            physical: place.physical,
+            width: access.width,
+            value,
+        });
+        if !access.loads() {
             return Ok(0);
         }
         Ok(words::read(
@@ -191,17 +191,13 @@ impl Plain {
         ))
     }
 
-    /// An access outside memory: a dropped store, or a fault.
+    /// An access outside memory: a dropped store, or a fault. A swap is never dropped, and never 4 or 6.
     fn outside(&self, access: &Access, place: &Place) -> Result<u32, Abort> {
-        let registers = &self.registers;
-        let dropped = registers.has(M)
-            && registers.has(W)
-            && (place.cacheable || place.bufferable)
-            && access.is_store();
-        let fills = registers.has(M) && registers.has(C) && place.cacheable && !access.is_store();
-        match (dropped, fills) {
-            (true, _) => Ok(0),
-            (_, true) => Err(place.fill_abort()),
+        match access.kind {
+            Kind::Store(_) if place.buffers(&self.registers) => Ok(0),
+            Kind::Load | Kind::SignedLoad if place.fills(&self.registers) => {
+                Err(place.fill_abort())
+            }
             _ => Err(place.other_abort()),
         }
     }

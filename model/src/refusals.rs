@@ -38,7 +38,11 @@ pub fn of_call(calls: u32, call: &Call) -> Option<u32> {
     }
     match *call {
         Call::Load { width, .. } | Call::SignedLoad { width, .. } => of_width(width),
-        Call::Store { width, value, .. } => of_width(width).or_else(|| of_value(width, value)),
+        // a swap is of a byte or a word
+        Call::Swap { width: 2, .. } => Some(6),
+        Call::Store { width, value, .. } | Call::Swap { width, value, .. } => {
+            of_width(width).or_else(|| of_value(width, value))
+        }
         Call::Read {
             privileged,
             register,

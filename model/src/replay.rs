@@ -97,7 +97,13 @@ pub fn call_of(line: &[u8]) -> Option<Call> {
     let fields = line.strip_suffix(b"\n")?.split(|byte| *byte == b',');
     let numbers: Vec<u32> = fields.map(number_of).collect::<Option<_>>()?;
     let numbers: [u32; FIELDS] = numbers.try_into().ok()?;
-    Call::from_numbers(&numbers)
+    call_of_numbers(&numbers)
+}
+
+/// The call of a line's numbers. A line has one of One's five kinds of call, so a swap departs from the form.
+fn call_of_numbers(numbers: &[u32; FIELDS]) -> Option<Call> {
+    let call = Call::from_numbers(numbers)?;
+    (!matches!(call, Call::Swap { .. })).then_some(call)
 }
 
 /// The number of a field: digits, at least one, up to 4,294,967,295.
@@ -165,7 +171,7 @@ fn parse(line: &[u8]) -> Option<Call> {
     if fields.next().is_some() {
         return None;
     }
-    Call::from_numbers(&numbers)
+    call_of_numbers(&numbers)
 }
 
 #[cfg(test)]
@@ -245,7 +251,7 @@ mod tests {
             "4294967299,1,1,0,0",
             "3,1,1,0,18446744073709551616",
             "3,1,1,0,99999999999999999999999999999999999999999999",
-            "5,1,1,0,0",
+            "6,1,1,0,0",
             "3,2,1,0,0",
             "3;1;1;0;0",
             "3,1,1,0,0\0",
@@ -257,6 +263,26 @@ mod tests {
         assert_eq!(printed(b"3,1,1,0,\xFF\n"), "1,2,13\n");
         assert_eq!(printed("3,1,1,0,0\n3,1,1,0,0"), "1,0,112\n2,2,13\n");
         assert_eq!(printed("\n"), "1,2,13\n");
+    }
+
+    /// A swap's five numbers are a call in a run, and a line that departs from the form in a text.
+    #[test]
+    fn swaps_depart() {
+        for numbers in [
+            [5, 1, 4, 0, 0],
+            [5, 0, 4, 0, u32::MAX],
+            [5, 1, 1, 3, 255],
+            [5, 1, 2, 0, 0],
+            [5, 1, 4, 65_536, 0],
+        ] {
+            assert!(Call::from_numbers(&numbers).is_some(), "{numbers:?}");
+            let line = numbers.map(|number| number.to_string()).join(",");
+            for line in [line.clone(), format!("00{line}")] {
+                let input = format!("3,1,1,0,0\n{line}\n3,1,1,0,0\n");
+                assert_eq!(printed(&input), "1,0,112\n2,2,13\n", "{input:?}");
+                assert_eq!(replay_plain(input.as_bytes()), b"1,0,112\n2,2,13\n");
+            }
+        }
     }
 
     /// Fields that a call ignores are tested, and may have any number that fits.

@@ -1,5 +1,6 @@
 //! The rules R2 to R6 and the end condition, as a monitor fed by the plain machine alone.
-//! R1 is the threading of the machine from call to call and needs no monitor.
+//! R1 is the threading of the machine from call to call and needs no monitor. A swap is an access that
+//! reaches its line and, inside memory, a store to its word and line.
 
 use crate::answers::Answer;
 use crate::calls::Call;

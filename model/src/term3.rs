@@ -62,7 +62,7 @@ pub fn compare<T: Watch>(run: &Run, rules: Rules, watch: &mut T) -> Verdict {
         };
         let plain = monitor.accept(&deed);
         let answer = library.step(call, watch);
-        watch.note_answer(&answer);
+        watch.note_answer(call, &answer);
         if answer != plain && difference.is_none() {
             difference = Some(Difference::Answer {
                 call: i,

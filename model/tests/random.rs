@@ -81,16 +81,9 @@ fn coverage() {
     println!("{coverage}");
     let missing = guided_alone.missing();
     println!("Never in the guided runs alone: {missing:?}");
-    assert_eq!(
-        missing,
-        [
-            "refusal 1",
-            "refusal 2",
-            "refusal 3",
-            "refusal 4",
-            "refusal 5"
-        ]
-    );
+    let refusals = |of: &'static str| (1..=5).map(move |number| format!("{of}refusal {number}"));
+    let expected: Vec<_> = refusals("").chain(refusals("swap, ")).collect();
+    assert_eq!(missing, expected);
     assert_eq!(coverage.missing(), Vec::<String>::new());
 }
 
@@ -100,7 +93,7 @@ fn free_run(rng: &mut Rng, coverage: &mut Coverage) {
     let mut m = Machine::start(run.memory, run.store).expect("a start");
     for call in &run.calls {
         let answer = m.step(call, coverage);
-        coverage.note_answer(&answer);
+        coverage.note_answer(call, &answer);
         assert!(!matches!(answer, Answer::Refused(1..=5)));
     }
     assert!(m.is_sound());
@@ -110,7 +103,7 @@ fn sound_run(rng: &mut Rng, coverage: &mut Coverage) {
     let mut sound = states::sound(rng);
     for call in states::calls(rng, &sound.world, 20) {
         let answer = sound.machine.call_watched(&call, coverage);
-        coverage.note_answer(&answer);
+        coverage.note_answer(&call, &answer);
         assert!(!matches!(answer, Answer::Refused(1..=4)));
     }
 }
@@ -143,7 +136,7 @@ fn damaged_call(rng: &mut Rng, coverage: &mut Coverage) {
     };
     let before = m.clone();
     let answer = m.call_watched(&call, coverage);
-    coverage.note_answer(&answer);
+    coverage.note_answer(&call, &answer);
     assert_eq!(answer, Answer::Refused(expected), "{call}");
     assert_eq!(*m, before);
 }

@@ -8,12 +8,13 @@ use sa110_model::library::{self, RunError};
 use sa110_model::machine::Machine;
 use sa110_model::state::{Registers, State, STORE_BYTES};
 
-/// The five kinds of call, each served on `ready`.
+/// Calls of each kind, each served on `ready`.
 fn kinds() -> Vec<Call> {
     vec![
         Call::load(4, 0x100),
         signed_load(4, 0x100),
         Call::store(4, 0x100, 7),
+        Call::swap(4, 0x100, 7),
         Call::read(1),
         Call::write(1, 0xD),
         Call::write(3, 0xD),
@@ -64,10 +65,17 @@ fn meet_in_call(number: u32, call: &mut Call) -> bool {
     match (number, call) {
         (6, Call::Load { width, .. } | Call::SignedLoad { width, .. }) => *width = 3,
         (6, Call::Store { width, .. }) => *width = 3,
+        (6, Call::Swap { width, .. }) => *width = 2,
         (7, Call::Store { width, value, .. }) => {
             *value = u32::MAX;
             if *width == 4 {
                 *width = 2;
+            }
+        }
+        (7, Call::Swap { width, value, .. }) => {
+            *value = u32::MAX;
+            if *width == 4 {
+                *width = 1;
             }
         }
         (8, Call::Read { privileged, .. } | Call::Write { privileged, .. }) => *privileged = false,
@@ -125,7 +133,7 @@ fn each_refusal_for_each_kind() {
         }
     }
     println!("kinds of call refused, by number: {:?}", &met[1..]);
-    assert_eq!(&met[1..], [12, 12, 12, 12, 12, 3, 1, 9, 9, 6, 1, 1]);
+    assert_eq!(&met[1..], [13, 13, 13, 13, 13, 4, 2, 9, 9, 6, 1, 1]);
 }
 
 #[test]
@@ -390,7 +398,7 @@ fn run_tells_what_is_not_a_call() {
         );
         (ran, answers)
     };
-    let three = [3, 1, 1, 0, 0, 5, 1, 1, 0, 0, 3, 1, 1, 0, 0];
+    let three = [3, 1, 1, 0, 0, 6, 1, 1, 0, 0, 3, 1, 1, 0, 0];
     assert_eq!(run(&three[..5], 1), (Ok(()), vec![0x7D]));
     assert_eq!(run(&three[..5], 2).0, Err(RunError::Lengths));
     assert_eq!(run(&three[..6], 1).0, Err(RunError::Lengths));

@@ -18,11 +18,14 @@ pub struct Guided {
 /// its virtual line and drains. `rules` may have a part left out.
 pub fn guided(rng: &mut Rng, length: usize, rules: Rules) -> Guided {
     let world = world(rng);
-    guided_in(rng, world, &[], length, rules)
+    let proposer = Proposer::new(rng, &world);
+    let (calls, turned_down) = guided_calls(rng, proposer, &[], length, rules);
+    let run = run_in(world, calls);
+    Guided { run, turned_down }
 }
 
-/// As `guided`, on so many zero bytes of memory and a store of zeros: the first calls store a world's
-/// descriptors, with translation off, then clean, drain and flush.
+/// As `guided` and without swaps, on so many zero bytes of memory and a store of zeros: the first calls
+/// store a world's descriptors, with translation off, then clean, drain and flush.
 pub fn guided_from_zeros(rng: &mut Rng, bytes: usize, length: usize, rules: Rules) -> Guided {
     let (world, mut first) = zero_world(rng, bytes);
     let mut lines: Vec<_> = world.descriptors.iter().map(|at| at / 32).collect();
@@ -30,13 +33,22 @@ pub fn guided_from_zeros(rng: &mut Rng, bytes: usize, length: usize, rules: Rule
     lines.dedup();
     first.extend(lines.iter().map(|line| Call::clean_line(line * 32)));
     first.extend([Call::drain(), Call::flush_tlb(), Call::flush_dcache()]);
-    guided_in(rng, world, &first, length, rules)
+    let proposer = Proposer::without_swaps(rng, &world);
+    let (calls, turned_down) = guided_calls(rng, proposer, &first, length, rules);
+    let run = run_in(world, calls);
+    Guided { run, turned_down }
 }
 
-/// A guided run in a world: the first calls, then up to `length` more.
-fn guided_in(rng: &mut Rng, world: World, first: &[Call], length: usize, rules: Rules) -> Guided {
-    let mut monitor = Monitor::start(world.memory.clone(), rules);
-    let mut proposer = Proposer::new(rng, &world);
+/// The calls of a guided run: the first ones, then up to `length` more that are proposed, then those that
+/// settle it; and how many proposals the rules turned down.
+fn guided_calls(
+    rng: &mut Rng,
+    mut proposer: Proposer,
+    first: &[Call],
+    length: usize,
+    rules: Rules,
+) -> (Vec<Call>, usize) {
+    let mut monitor = Monitor::start(proposer.world.memory.clone(), rules);
     proposer.queue.extend(first);
     proposer.opening(rng);
     let mut calls = Vec::with_capacity(first.len() + length + 64);
@@ -57,14 +69,16 @@ fn guided_in(rng: &mut Rng, world: World, first: &[Call], length: usize, rules: 
         }
     }
     settle(&mut monitor, &mut calls);
+    (calls, turned_down)
+}
+
+/// The run of these calls on a world's memory and store.
+fn run_in(world: World, calls: Vec<Call>) -> Run {
     let World { memory, store, .. } = world;
-    Guided {
-        run: Run {
-            memory,
-            store,
-            calls,
-        },
-        turned_down,
+    Run {
+        memory,
+        store,
+        calls,
     }
 }
 
@@ -120,29 +134,27 @@ fn settle(monitor: &mut Monitor, calls: &mut Vec<Call>) {
 /// A random run of `length` calls that ignores the rules.
 pub fn free(rng: &mut Rng, length: usize) -> Run {
     let world = world(rng);
-    free_in(rng, world, &[], length)
+    let proposer = Proposer::new(rng, &world);
+    let calls = free_calls(rng, proposer, &[], length);
+    run_in(world, calls)
 }
 
-/// As `free`, on so many zero bytes of memory and a store of zeros: the first calls store a world's
-/// descriptors, with translation off.
+/// As `free` and without swaps, on so many zero bytes of memory and a store of zeros: the first calls
+/// store a world's descriptors, with translation off.
 pub fn free_from_zeros(rng: &mut Rng, bytes: usize, length: usize) -> Run {
     let (world, first) = zero_world(rng, bytes);
-    free_in(rng, world, &first, length)
+    let proposer = Proposer::without_swaps(rng, &world);
+    let calls = free_calls(rng, proposer, &first, length);
+    run_in(world, calls)
 }
 
-fn free_in(rng: &mut Rng, world: World, first: &[Call], length: usize) -> Run {
-    let mut proposer = Proposer::new(rng, &world);
+/// The first calls, then `length` more that are proposed.
+fn free_calls(rng: &mut Rng, mut proposer: Proposer, first: &[Call], length: usize) -> Vec<Call> {
     proposer.queue.extend(first);
     proposer.opening(rng);
-    let calls = (0..first.len() + length)
+    (0..first.len() + length)
         .map(|_| proposer.next(rng))
-        .collect();
-    let World { memory, store, .. } = world;
-    Run {
-        memory,
-        store,
-        calls,
-    }
+        .collect()
 }
 
 /// A world whose memory and store are zero yet, and the stores that write its descriptors.

@@ -1,4 +1,4 @@
-//! Random calls, biased so that lines are hit, evicted, cleaned and their descriptors changed.
+//! Random calls, biased so that lines are hit, evicted, cleaned and their descriptors changed. Every kind of call occurs.
 
 use super::rng::Rng;
 use super::world::World;
@@ -12,6 +12,8 @@ pub struct Proposer<'a> {
     pub queue: VecDeque<Call>,
     /// Percentage of stores among the accesses.
     stores: u32,
+    /// Percentage of swaps among the accesses, and among what stores and what is refused.
+    swaps: u32,
     /// Number of lines that most accesses go to.
     hot: u32,
     /// Descriptors, table base and TLB are left alone.
@@ -25,8 +27,17 @@ impl<'a> Proposer<'a> {
             world,
             queue: VecDeque::new(),
             stores: 15 + rng.below(50),
+            swaps: 3 + rng.below(20),
             hot: 1 + rng.below(lines.min(40)),
             calm: rng.percent(40),
+        }
+    }
+
+    /// Proposes no swaps, for lists that become text.
+    pub fn without_swaps(rng: &mut Rng, world: &'a World) -> Proposer<'a> {
+        Proposer {
+            swaps: 0,
+            ..Proposer::new(rng, world)
         }
     }
 
@@ -46,11 +57,13 @@ impl<'a> Proposer<'a> {
         }
         let line = self.line(rng);
         match rng.below(1000) {
+            770..=779 if self.swaps > 0 => self.store_and_swap(rng),
             0..=779 => self.access(rng),
             780..=859 => self.line_operation(rng),
             860..=879 => Call::drain(),
             880..=894 => Call::drop_tlb_entry(line),
             895..=934 => self.register_call(rng),
+            935..=949 if rng.percent(self.swaps) => refused_swap(rng, line),
             935..=949 => refused_call(rng, line),
             950..=955 => self.sweep(rng),
             956..=959 => self.page_sweep(rng),
@@ -80,14 +93,22 @@ impl<'a> Proposer<'a> {
 
     /// Mostly aligned and privileged.
     fn access_at(&self, rng: &mut Rng, address: u32) -> Call {
-        let width = rng.pick(&[1, 2, 4, 4]);
+        let swap = rng.percent(self.swaps);
+        let width = rng.pick(if swap { &[1, 4] } else { &[1, 2, 4, 4] });
         let address = if rng.percent(92) {
             address & !(width - 1)
         } else {
             address
         };
         let privileged = rng.percent(85);
-        if rng.percent(self.stores) {
+        if swap {
+            Call::Swap {
+                privileged,
+                width,
+                address,
+                value: store_value(rng, width),
+            }
+        } else if rng.percent(self.stores) {
             Call::Store {
                 privileged,
                 width,
@@ -107,6 +128,24 @@ impl<'a> Proposer<'a> {
                 address,
             }
         }
+    }
+
+    /// A privileged store, or of a byte or a word now and then a swap.
+    fn store(&self, rng: &mut Rng, width: u32, address: u32, value: u32) -> Call {
+        if width != 2 && rng.percent(self.swaps) {
+            Call::swap(width, address, value)
+        } else {
+            Call::store(width, address, value)
+        }
+    }
+
+    /// A store and a swap of its word, which finds the bytes in the buffer where stores are buffered.
+    fn store_and_swap(&mut self, rng: &mut Rng) -> Call {
+        let word = self.line(rng) | (rng.below(8) * 4);
+        self.queue.push_back(Call::swap(4, word, rng.word()));
+        let width = rng.pick(&[1, 2, 4]);
+        let address = word | (rng.below(4) / width * width);
+        Call::store(width, address, store_value(rng, width))
     }
 
     /// Any address, or one near the lines in use.
@@ -165,13 +204,13 @@ impl<'a> Proposer<'a> {
             self.queue.push_back(Call::flush_tlb());
         }
         if rng.percent(40) {
-            self.queue
-                .push_back(Call::store(4, address, descriptor(rng, self.world)));
+            let value = descriptor(rng, self.world);
+            self.queue.push_back(self.store(rng, 4, address, value));
             return Call::load(4, address);
         }
         let width = rng.pick(&[1, 2, 4, 4, 4]);
         let value = descriptor(rng, self.world) & (u32::MAX >> (32 - 8 * width));
-        Call::store(width, address, value)
+        self.store(rng, width, address, value)
     }
 
     /// A small page's word becomes its group's large page's, while the TLB holds the small page.
@@ -181,7 +220,8 @@ impl<'a> Proposer<'a> {
         }
         let mixed = rng.pick(&self.world.mixed);
         let address = rng.pick(&self.world.sections) << 20 | mixed.at;
-        self.queue.push_back(Call::store(4, address, mixed.word));
+        self.queue
+            .push_back(self.store(rng, 4, address, mixed.word));
         self.queue.push_back(Call::load(1, mixed.other));
         self.queue.push_back(Call::drop_tlb_entry(mixed.small));
         Call::load(1, mixed.small)
@@ -221,8 +261,8 @@ impl<'a> Proposer<'a> {
             let address = first.wrapping_add(i * 0x200);
             self.queue.push_back(Call::load(4, address));
             for _ in 0..rng.below(3) {
-                let at = address | (rng.below(8) * 4);
-                self.queue.push_back(Call::store(4, at, rng.word()));
+                let (at, value) = (address | (rng.below(8) * 4), rng.word());
+                self.queue.push_back(self.store(rng, 4, at, value));
             }
         }
         Call::load(4, first)
@@ -281,6 +321,16 @@ fn descriptor(rng: &mut Rng, world: &World) -> u32 {
         3 => rng.pick(&world.tables) | 1,
         4 => 0xFFD,
         _ => inside & 0xFFFF_F000 | 0xFF2 | rng.below(4) << 2,
+    }
+}
+
+/// A swap that refusal 6 or 7 meets.
+fn refused_swap(rng: &mut Rng, address: u32) -> Call {
+    Call::Swap {
+        privileged: rng.percent(50),
+        width: rng.pick(&[0, 1, 1, 2, 2, 3, 8]),
+        address,
+        value: 0x100 | rng.word(),
     }
 }
 

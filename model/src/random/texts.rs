@@ -2,15 +2,15 @@
 
 use super::rng::Rng;
 use crate::calls::{Call, FIELDS};
-use crate::replay::LINE_LIMIT;
+use crate::replay::{LINE_LIMIT, MEMORY_BYTES};
 
-/// The calls as text, one a line, each field without leading zeros and the ignored ones 0.
+/// The calls, no swap among them, as text, one a line, each field without leading zeros and the ignored ones 0.
 pub fn text_of(calls: &[Call]) -> Vec<u8> {
     let lines = calls.iter().map(|call| line_of(&call.to_numbers()));
     lines.collect::<String>().into_bytes()
 }
 
-/// The calls as text. Fields that a call ignores are any numbers, and some fields have leading zeros.
+/// The calls, no swap among them, as text. Fields that a call ignores are any numbers, and some fields have leading zeros.
 pub fn varied_text_of(rng: &mut Rng, calls: &[Call]) -> Vec<u8> {
     let lines = calls.iter().map(|call| varied_line(rng, call));
     lines.collect::<String>().into_bytes()
@@ -62,21 +62,29 @@ pub fn departing_line(rng: &mut Rng) -> Vec<u8> {
     let mut fields = [3, 1, 1, 0, 0].map(|number: u32| number.to_string());
     let at = rng.below(FIELDS as u32) as usize;
     let long = 1 + rng.below(40) as usize;
-    match rng.below(12) {
+    match rng.below(13) {
         0 => fields[at].clear(),
         1 => fields[at] = (u64::from(u32::MAX) + 1 + u64::from(rng.below(2))).to_string(),
         2 => fields[at] = rng.draw().to_string() + "0",
         3 => fields[at] = "9".repeat(long.max(11)),
-        4 => fields[0] = (5 + rng.below(3)).to_string(),
+        4 => fields[0] = (6 + rng.below(3)).to_string(),
         5 => fields[1] = (2 + rng.below(3)).to_string(),
         6 => fields[at] = format!("{}{}", rng.pick(&["+", "-", " ", "\0", "\t"]), fields[at]),
         7 => fields[at] += rng.pick(&["\r", " ", "x", "\0", ".", ";"]),
         8 => fields[at] += ",0",
         9 => fields[at] = "0".repeat(LINE_LIMIT + 1 - 10 + long) + &fields[at],
         10 => fields[at] = "0".repeat(LINE_LIMIT + 1 - 10) + &fields[at],
+        11 => return swap_line(rng).into_bytes(),
         _ => return [&b"\n"[..], b"3,1,1,0\n", b"\xFF\n", b"\r\n", b",,,,\n"][at].to_vec(),
     }
     joined(&fields).into_bytes()
+}
+
+/// The line of a swap that a run serves or refuses.
+fn swap_line(rng: &mut Rng) -> String {
+    let width = rng.pick(&[1, 2, 4, 4]);
+    let address = rng.below(MEMORY_BYTES as u32 + 0x100);
+    line_of(&Call::swap(width, address, rng.word() >> (32 - 8 * width)).to_numbers())
 }
 
 /// The bytes that a changed byte is set to.
