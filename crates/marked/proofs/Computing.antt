@@ -18,6 +18,7 @@ use Rattle.bus.specs.Physical.{aborts}
 use Rattle.reach.specs.Reach as reach
 use Rattle.loads.specs.Loads as loads
 use Rattle.stores.specs.Stores as stores
+use Rattle.swaps.specs.Swaps as swaps
 use Rattle.access.specs.Access as access
 use Rattle.registers.specs.Registers.{readOf, writtenOf}
 use Rattle.cp15.specs.Operations as cp15
@@ -36,11 +37,11 @@ unfolding kept listed controlRead all any sum firstFrom stored valueAt signedBy 
     cache.filled cache.cleanedAt cache.cleaned cache.flushedAt cache.lineFlushed cache.allFlushed fresh sound tagsSound tagTwice entrySound lineSound
     slotSound bufferSound registersSound countsSound zeroOutside cleared translation walkedOnly checkedBy faultSet decided aborts firstMet
     reach.decision reach.committed reach.faulted loads.loadHit loads.loadFill loads.loadUncached loads.loadMiss loads.load stores.storeHit
-    stores.storeBuffered stores.storeDirect stores.storeMiss stores.store access.accessAt access.access readOf writtenOf cp15.operated cp15.read
+    stores.storeBuffered stores.storeDirect stores.storeMiss stores.store swaps.swapHit swaps.swapDirect swaps.swapMiss swaps.swap access.accessAt access.access readOf writtenOf cp15.operated cp15.read
     cp15.write refusal stateRefusal startRefusal started served answersOf finalOf
 computing = tt
 
 unfoldable pub computingPlainly : Unit {0}
-unfolding plain.plainStart plain.plainFaulted plain.plainReach plain.plainLoad plain.plainStore plain.plainAt plain.plainAccess plain.plainRead
+unfolding plain.plainStart plain.plainFaulted plain.plainReach plain.plainLoad plain.plainStore plain.plainSwap plain.plainAt plain.plainAccess plain.plainRead
     plain.plainWrite plain.plainRefusal plain.plainly
 computingPlainly = tt

@@ -5,3 +5,4 @@ pub mod Rows
 pub mod Witness
 pub mod Asked
 pub mod Needed
+pub mod Swaps

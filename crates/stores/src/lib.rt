@@ -7,7 +7,7 @@ ghost use lib.ListN.{length};
 ghost use Rattle.values.specs.Counts.{countLimit};
 ghost use Rattle.words.specs.Words.{isWidth};
 ghost use Rattle.bus.specs.Physical.{physical, aborts};
-ghost use Rattle.machine.specs.Lists.{Lists, lists, machineOf, steppedOf, Leaves, LeavesBelow};
+ghost use Rattle.machine.specs.Lists.{Lists, lists, machineOf, steppedOf, LeavesBelow};
 ghost use Rattle.machine.specs.Machine.{Machine};
 ghost use Rattle.reach.specs.Code.{MissReady};
 ghost use Rattle.machine.specs.Scalars.{outcomeFrom};
@@ -17,7 +17,6 @@ use machine::Scalars;
 use translation::Place;
 use values::Access;
 use values::Answer;
-use values::Search;
 
 // A served store answers 0.
 fn stored(s: Scalars) -> Outcome

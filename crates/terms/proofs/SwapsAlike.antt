@@ -1,5 +1,5 @@
 -- A swap that passes: a hit, memory behind a drain, or a fault. What it leaves is what the store leaves.
-use Prim.Native.Nat.{ℕ, _+_, _/_, _%_}
+use Prim.Native.Nat.{ℕ, _+_}
 use native.Mathlib.Omega.{arith}
 use mathlib.Core.Bool.{false}
 use mathlib.Core.Path.{_≡_, refl, sym, _∙_, ap, subst}

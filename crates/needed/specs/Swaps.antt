@@ -1,0 +1,91 @@
+-- Swaps in a run (document 02, Two). A run with swaps keeps R1 to R6; and the rules must ask of a swap what they ask of a store: for each of R2, R3, R4
+-- and the end a list in which a swap breaks it, and the library differs from the plain machine.
+use Prim.Native.Nat.{ℕ}
+use mathlib.Core.Bool.{true}
+use mathlib.Core.List.{List, [], _∷_}
+use mathlib.Core.Path.{_≡_}
+use lib.ListN.{take, drop}
+use Rattle.values.specs.declared.Call.{Call}
+use Rattle.values.specs.declared.Kind.the-variants.{Swap}
+use Rattle.values.specs.declared.Answer.{Answer}
+use Rattle.values.specs.declared.Answer.the-variants.{Value, Refused}
+use Rattle.values.specs.declared.Status.the-variants.{OtherSection, TranslationSection}
+use Rattle.machine.specs.Machine.{Machine, memoryOf}
+use Rattle.step.specs.Start.{started}
+use Rattle.step.specs.Run as steps
+use Rattle.terms.specs.Positions.{keepsRules, settled, r2-virtual, drainedSince, drains}
+use Rattle.terms.specs.Term3.{RunUnder, library}
+use Rattle.marked.specs.MarkedCases as marked
+use Rattle.needed.specs.Calls.{load, store, flush, clean, drain, enabled, twice, zeroStore}
+use Rattle.needed.specs.Witness.{memory}
+use Rattle.needed.specs.Needed.{R2, R3, R4, Differs, DiffersAtEnd, noLineFlush, r4By, followed, anything}
+
+abbrev pub swap : ℕ → ℕ → ℕ → Call
+swap width a v = marked.access true (Swap v) width a
+
+-- ---- a run
+
+-- 9 stands at 20. A buffered store of 3 to 24; a swap there, and a byte's at 20, miss and go to memory; a load fills the line; a swap hits; one of 2 bytes
+-- is refused; 40 lies outside memory, where a load would fill
+abbrev pub calls : List Call
+calls =
+    enabled
+    (store 0x24 3 ∷ swap 4 0x24 4 ∷ swap 1 0x20 5 ∷ load 0x20 ∷ swap 4 0x20 6 ∷ swap 2 0x20 7 ∷ swap 4 0x40 8 ∷ load 0x20 ∷ clean 0x20 ∷ drain ∷ [])
+
+abbrev pub answers : List Answer
+answers =
+    Value 0 ∷ Value 0
+    ∷ Value 0 ∷ Value 3 ∷ Value 9 ∷ Value 5 ∷ Value 5 ∷ Refused 6 ∷ marked.fault OtherSection 0 0x40 ∷ Value 6 ∷ Value 0 ∷ Value 0 ∷ []
+
+-- the library's machine after so many of the calls
+abbrev pub after : ℕ → Machine
+after n = library memory zeroStore (take n calls)
+
+-- memory's eight bytes from 20 on
+abbrev pub bytesOf : Machine → List ℕ
+bytesOf m = take 8 (drop 0x20 (memoryOf m))
+
+pub record SwapWitness : Type 0 where
+  -- all that term 3 asks
+  pub run : RunUnder (keepsRules memory calls ≡ true) memory zeroStore calls
+  -- "after cleaning and draining"
+  pub settled : settled memory calls ≡ true
+  -- what the library answers
+  pub answered : steps.answers (started memory zeroStore .machine) calls ≡ answers
+  -- the store waits in the buffer; "the buffer is drained and memory is read, then written, without filling a line"
+  pub waiting : after 3 .side .backing .buffer .used ≡ 1
+  pub drained : after 4 .side .backing .buffer .used ≡ 0
+  pub not-filled : after 5 .counts .fills ≡ 0
+  pub written : bytesOf (after 5) ≡ 5 ∷ 0 ∷ 0 ∷ 0 ∷ 4 ∷ 0 ∷ 0 ∷ 0 ∷ []
+  -- "if the line is held, reads and writes the cached line": one hit, and memory is as it was
+  pub one-hit : after 7 .counts .hits ≡ 1
+  pub memory-kept : bytesOf (after 7) ≡ 5 ∷ 0 ∷ 0 ∷ 0 ∷ 4 ∷ 0 ∷ 0 ∷ 0 ∷ []
+  -- its half is dirty: the clean sends it out
+  pub halves : library memory zeroStore calls .counts .halves ≡ 1
+  pub at-end : bytesOf (library memory zeroStore calls) ≡ 6 ∷ 0 ∷ 0 ∷ 0 ∷ 4 ∷ 0 ∷ 0 ∷ 0 ∷ []
+
+-- ---- what the rules ask of a swap
+
+-- R2: a swap reaches its line
+abbrev pub Reaches : Type 0
+Reaches = Differs R2 r2-virtual twice (enabled (load 0x20 ∷ swap 4 0x100020 7 ∷ load 0x20 ∷ [])) (Value 0) (Value 7)
+
+-- R3: a swap is a store to its line
+abbrev pub StoresLine : Type 0
+StoresLine = Differs R3 noLineFlush twice (enabled (load 0x20 ∷ swap 4 0x20 7 ∷ flush ∷ load 0x20 ∷ [])) (Value 0) (Value 7)
+
+-- R4: a swap is a store to its word
+abbrev pub StoresWord : Type 0
+StoresWord =
+    Differs R4 (r4By drainedSince) twice (enabled (load 0x100020 ∷ swap 4 4 0 ∷ clean 0 ∷ drain ∷ load 0x100020 ∷ []))
+    (Value 0) (marked.fault TranslationSection 0 0x100020)
+
+-- the end: a swap is a store to its line
+abbrev pub StoresAtEnd : Type 0
+StoresAtEnd = DiffersAtEnd (followed anything drains) twice (enabled (load 0x20 ∷ swap 4 0x20 7 ∷ drain ∷ [])) 0x20 0 7
+
+pub record SwapsNeeded : Type 0 where
+  pub reaches : Reaches
+  pub stores-line : StoresLine
+  pub stores-word : StoresWord
+  pub stores-at-end : StoresAtEnd
