@@ -12,7 +12,9 @@ use borrow.Author.Tests.{le-leb, lt-leb, ne-eqb, leb-true, eqb-true, not-true}
 use Rattle.values.specs.Lists.{any}
 use Rattle.values.proofs.Cases.{case, and-left, and-right, and-false}
 use Rattle.machine.specs.Machine.{Machine}
-use Rattle.replay.specs.Parts.{Held, heldFrom, padded, linesLimit, isFeed, kept, partedFrom, startReplay, putOut, settled}
+use Rattle.pieces.specs.Pieces.{padded, isFeed}
+use Rattle.batch.specs.Batch.{linesLimit}
+use Rattle.replay.specs.Parts.{Held, heldFrom, kept, partedFrom, startReplay, putOut, settled}
 use Rattle.step.specs.Start.{Started, started}
 
 -- ---- the test of the fields

@@ -4,16 +4,14 @@ use Prim.Native.Nat.{ℕ, _+_, _-_, _/_, min}
 use mathlib.Core.Bool.{Bool, cond, not, _&&_}
 use mathlib.Core.List.{List, [], _++_}
 use lib.Dec.{eqb, leb}
-use lib.ListN.{length, take, drop, replicate}
+use lib.ListN.{length, take, drop}
 use Rattle.values.specs.Lists.{any}
-use Rattle.values.specs.declared.Answer.{Answer}
-use Rattle.trace.specs.Fold.{callsIn}
-use Rattle.printed.specs.Printed.{lineFeed, printed}
-use Rattle.fields.specs.Parse.{Parsed, parse, more, open-line, departing}
+use Rattle.printed.specs.Printed.{printed}
+use Rattle.fields.specs.Parse.{parse, more, open-line}
 use Rattle.machine.specs.Machine.{Machine}
 use Rattle.step.specs.Start.{started}
-use Rattle.step.specs.Run.{answers, final}
-use Rattle.replay.specs.Replay.{refused13}
+use Rattle.pieces.specs.Pieces.{padded, isFeed}
+use Rattle.batch.specs.Batch.{linesLimit, machineAfter, parsedAnswers, stops}
 
 -- What is held: the machine, how many lines were replayed, how many bytes at the front of `begun` are of a line that has not ended, how many at the front of
 -- `pending` wait to be written, and whether a line has departed (not 0).
@@ -36,17 +34,6 @@ begunLine h = take (h .held) (h .begun)
 
 abbrev pub waitingBytes : Held → List ℕ
 waitingBytes h = take (h .waiting) (h .pending)
-
--- bytes in a list of 64, zeros behind them
-abbrev pub padded : List ℕ → List ℕ
-padded bytes = bytes ++ replicate (64 - length bytes) 0
-
--- the most lines behind which a part is not refused
-abbrev pub linesLimit : ℕ
-linesLimit = 0x7FFFFFFFFFFFFFFF
-
-abbrev pub isFeed : ℕ → Bool
-isFeed b = eqb b lineFeed
 
 -- what a part asks of the fields: those lines at most, fewer than 64 bytes of a line and no line feed among them, and no more bytes that wait than 64
 unfoldable pub kept : ℕ → ℕ → ℕ → List ℕ → Bool
@@ -80,17 +67,6 @@ putOut h bytes out taken =
 -- At most so many lines are replayed in one part: where none is begun, as many as the slice has room for, 34 bytes a line, up to 1,024; else one.
 abbrev pub linesAtMost : ℕ → ℕ → ℕ
 linesAtMost held room = cond (eqb held 0 && leb 34 room) (min (room / 34) 1024) 1
-
--- the machine behind lines that were parsed, and what they are answered
-abbrev pub machineAfter : Machine → Parsed → Machine
-machineAfter m p = final m (callsIn (p .made) (p .numbers) 0)
-
-abbrev pub parsedAnswers : Machine → Parsed → List Answer
-parsedAnswers m p = answers m (callsIn (p .made) (p .numbers) 0) ++ cond (eqb (p .verdict) departing) refused13 []
-
--- 1 where a line departed, which is counted, too
-abbrev pub stops : ℕ → ℕ
-stops verdict = cond (eqb verdict departing) 1 0
 
 -- what is carried over of the bytes behind the lines: a line that is not decided
 abbrev pub carried : ℕ → List ℕ → List ℕ

@@ -4,7 +4,7 @@ use denote.Ref.{now}
 use mathlib.Core.Path.{_∙_, sym, ap}
 use lib.ListN.{drop, length-drop}
 use Rattle.sa110.specs.State.{machineIn}
-use Rattle.replay.specs.Parts.{padded}
+use Rattle.pieces.specs.Pieces.{padded}
 use Rattle.replay.proofs.Keeping.{settled-departing, settled-open, settled-more, to-end}
 use borrow.Author.Needs.{needs}
 use Rattle.replay.proofs.settled.Statement.{statement}

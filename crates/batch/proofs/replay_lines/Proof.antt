@@ -5,11 +5,11 @@ use mathlib.Core.Path.{_≡_, sym}
 use lib.ListN.{length, replicate}
 use Rattle.sa110.specs.State.{machineIn, ranOf}
 use Rattle.answers.proofs.States.{formed-typed}
-use Rattle.replay.proofs.Printing.{calls-made, departed-room, ran-machine, ran-told, codes-low, batch-laid}
+use Rattle.batch.proofs.Printing.{calls-made, departed-room, ran-machine, ran-told, codes-low, batch-laid}
 use lib.Seq.{length-take-le}
 use borrow.Author.Needs.{needs}
-use Rattle.replay.proofs.replay_lines.Statement.{statement}
-use Rattle.replay.proofs.replay_lines.Tie as tie
+use Rattle.batch.proofs.replay_lines.Statement.{statement}
+use Rattle.batch.proofs.replay_lines.Tie as tie
 
 slice-aggregate-parse : tie.Need-slice-aggregate-parse
 slice-aggregate-parse c = search needs

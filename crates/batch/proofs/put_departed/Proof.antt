@@ -1,9 +1,9 @@
 use borrow.Author.Needs.{needs}
 use denote.Ref.{now}
-use Rattle.replay.proofs.Printing.{departed-line, departed-none}
+use Rattle.batch.proofs.Printing.{departed-line, departed-none}
 use borrow.Author.Needs.{needs}
-use Rattle.replay.proofs.put_departed.Statement.{statement}
-use Rattle.replay.proofs.put_departed.Tie as tie
+use Rattle.batch.proofs.put_departed.Statement.{statement}
+use Rattle.batch.proofs.put_departed.Tie as tie
 
 put-line-requires : tie.Need-put-line-requires
 put-line-requires c κs = let start = c .before .before .before in

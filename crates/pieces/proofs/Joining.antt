@@ -8,7 +8,7 @@ use lib.ListN.{length, getD, take, drop, set, length-set, drop-of-length-le}
 use lib.Seq.{take-suc-set, append-snoc}
 use borrow.Author.Tests.{eq-eqb, ne-eqb}
 use Rattle.fields.proofs.Digits.{drop-more}
-use Rattle.replay.specs.Code.{onto}
+use Rattle.pieces.specs.Pieces.{onto}
 
 -- what holds before each turn of the loop
 pub record Joining (line₀ text : List ℕ) (held : ℕ) (line : List ℕ) (i : ℕ) : Type 0 where

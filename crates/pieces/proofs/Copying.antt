@@ -10,7 +10,7 @@ use lib.Seq.{set-at, take-suc, append-snoc, length-take-le}
 use borrow.Author.Tests.{eq-eqb, ne-eqb}
 use Rattle.values.specs.Lists.{any}
 use Rattle.fields.proofs.Digits.{drop-more}
-use Rattle.replay.specs.Parts.{isFeed, padded}
+use Rattle.pieces.specs.Pieces.{isFeed, padded}
 
 -- one byte more at the front
 pub front-on : (bytes out : List ℕ) (i : ℕ) → i < length bytes → i < length out

@@ -32,9 +32,8 @@ use Rattle.step.specs.Meets.{stateRefusal}
 use Rattle.machine.specs.Machine.{Machine}
 use Rattle.step.specs.Run.{next, answered, answers, run}
 use Rattle.step.proofs.Runs.{run-as}
-use Rattle.replay.specs.Replay.{refused13}
-use Rattle.replay.specs.Parts.{machineAfter, parsedAnswers, stops}
-use Rattle.replay.specs.Code.{Departed}
+use Rattle.batch.specs.Batch.{refused13, machineAfter, parsedAnswers, stops}
+use Rattle.batch.specs.Code.{Departed}
 
 -- ---- the line of a line that departed
 

@@ -3,9 +3,9 @@ use denote.Ref.{now}
 use Prim.Native.Nat.{_-_, _+_}
 use mathlib.Core.Path.{_∙_}
 use lib.ListN.{length-set}
-use Rattle.replay.proofs.Joining.{Joining, joining-start, joining-full, joining-end, joining-feed, joining-on}
-use Rattle.replay.proofs.join.Statement.{statement}
-use Rattle.replay.proofs.join.Tie as tie
+use Rattle.pieces.proofs.Joining.{Joining, joining-start, joining-full, joining-end, joining-feed, joining-on}
+use Rattle.pieces.proofs.join.Statement.{statement}
+use Rattle.pieces.proofs.join.Tie as tie
 
 abbrev Inv-loop : tie.InvT-loop
 Inv-loop line₀ held text i₀ line i = Joining line₀ text held line i

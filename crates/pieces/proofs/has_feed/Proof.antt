@@ -4,10 +4,10 @@ use Prim.Native.Nat.{_-_, _≤_}
 use mathlib.Core.Path.{_≡_, sym, _∙_}
 use lib.ListN.{take, drop}
 use Rattle.values.specs.Lists.{any}
-use Rattle.replay.specs.Parts.{isFeed}
-use Rattle.replay.proofs.Copying.{feed-first, feed-here, feed-later, feed-none}
-use Rattle.replay.proofs.has_feed.Statement.{statement}
-use Rattle.replay.proofs.has_feed.Tie as tie
+use Rattle.pieces.specs.Pieces.{isFeed}
+use Rattle.pieces.proofs.Copying.{feed-first, feed-here, feed-later, feed-none}
+use Rattle.pieces.proofs.has_feed.Statement.{statement}
+use Rattle.pieces.proofs.has_feed.Tie as tie
 
 abbrev Inv-loop : tie.InvT-loop
 Inv-loop bytes n i₀ i = (i ≤ n) × (any isFeed (take (n - i) (drop i bytes)) ≡ any isFeed (take n bytes))

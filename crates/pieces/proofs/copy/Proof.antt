@@ -6,9 +6,9 @@ use mathlib.Core.Path.{_≡_, refl, _∙_, ap}
 use mathlib.Core.List.{_++_, List}
 use lib.ListN.{take, drop, length, set, getD, length-set}
 use Prim.Native.Nat.{ℕ}
-use Rattle.replay.proofs.Copying.{front-on}
-use Rattle.replay.proofs.copy.Statement.{statement}
-use Rattle.replay.proofs.copy.Tie as tie
+use Rattle.pieces.proofs.Copying.{front-on}
+use Rattle.pieces.proofs.copy.Statement.{statement}
+use Rattle.pieces.proofs.copy.Tie as tie
 
 abbrev Inv-loop : tie.InvT-loop
 Inv-loop bytes n out₀ i₀ out i = (i ≤ n) × (out ≡ take i bytes ++ drop i out₀) × (length out ≡ length out₀)

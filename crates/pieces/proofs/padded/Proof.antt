@@ -6,9 +6,9 @@ use mathlib.Core.Path.{_≡_, refl, sym, _∙_, ap}
 use mathlib.Core.List.{_++_, List}
 use lib.ListN.{take, drop, length, set, getD, length-set, length-drop, replicate}
 use lib.Seq.{getD-drop}
-use Rattle.replay.proofs.Copying.{front-on, padded-is}
-use Rattle.replay.proofs.padded.Statement.{statement}
-use Rattle.replay.proofs.padded.Tie as tie
+use Rattle.pieces.proofs.Copying.{front-on, padded-is}
+use Rattle.pieces.proofs.padded.Statement.{statement}
+use Rattle.pieces.proofs.padded.Tie as tie
 
 abbrev Inv-loop : tie.InvT-loop
 Inv-loop bytes from end out₀ i₀ out i = (i ≤ end - from) × (out ≡ take i (drop from bytes) ++ drop i (replicate 64 0)) × (length out ≡ 64)
