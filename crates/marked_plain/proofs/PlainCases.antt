@@ -1,8 +1,8 @@
 -- M1 to M12 of the plain machine: each by computation, and the table of them.
 use mathlib.Core.Path.{refl}
 use Rattle.marked.proofs.Computing.{computing, computingPlainly}
 use Rattle.marked.specs.MarkedCases.{M1, M2, M3, M4-set, M4-clear, M6, M7, M8, M9, M9-domain, M10, M11, M12}
-use Rattle.marked.specs.PlainCases.{plainRun, plainRunWith, PlainMarkedCases}
+use Rattle.marked_plain.specs.PlainCases.{plainRun, plainRunWith, PlainMarkedCases}
 
 m1 : M1 plainRun
 unfolding computing computingPlainly
