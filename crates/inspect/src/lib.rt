@@ -6,7 +6,7 @@ ghost use lib.ListN.{length};
 ghost use Rattle.values.specs.Bits.{number};
 ghost use Rattle.soundness_test.specs.Soundness.{sound};
 ghost use Rattle.sa110.specs.State.{machineIn};
-ghost use Rattle.sa110.specs.Look.{Inside};
+ghost use Rattle.look.specs.Look.{Inside};
 ghost use Rattle.inspect.specs.Codes.{partCode, lookCode};
 use sa110::Part;
 use sa110::State;
