@@ -4,7 +4,7 @@ ghost use mathlib.Core.List.{List};
 ghost use Prim.Native.Nat.{ℕ};
 ghost use lib.ListN.{length};
 ghost use Rattle.values.specs.Bits.{number};
-ghost use Rattle.soundness_test.specs.Soundness.{sound};
+ghost use Rattle.soundness.specs.Soundness.{sound};
 ghost use Rattle.sa110.specs.State.{machineIn};
 ghost use Rattle.look.specs.Look.{Inside};
 ghost use Rattle.inspect.specs.Codes.{partCode, lookCode};

@@ -5,7 +5,7 @@ ghost use Prim.Native.Nat.{ℕ};
 ghost use lib.ListN.{length};
 ghost use Rattle.values.specs.Registers.{zeroCp15};
 ghost use Rattle.machine.specs.Machine as machines;
-ghost use Rattle.soundness_test.specs.Soundness.{sound};
+ghost use Rattle.soundness.specs.Soundness.{sound};
 ghost use Rattle.step.specs.Meets.{stateRefusal};
 ghost use Rattle.step.specs.Start as starts;
 ghost use Rattle.state.specs.State.{bytesOf, machineIn, startedOf};

@@ -87,7 +87,7 @@ use denote.Triple.Table.{entered, cited}
 use denote.Triple.Walked.{says, Stays, stay-dropped, walkOf, AllGo, goes-dropped, Walks, ends-at, walked, walk-meets}
 use denote.Exit.{yes}
 use Rattle.values.specs.Bits.{number}
-use Rattle.soundness_test.specs.Soundness as soundness
+use Rattle.soundness.specs.Soundness as soundness
 use Rattle.sa110.specs.State.{machineIn}
 use Rattle.state.specs.declared.State.{State}
 use Rattle.values.specs.declared.Cp15.{Cp15}
