@@ -1,4 +1,3 @@
-pub mod Keeping
 pub mod Wholes
 pub mod OneLine
 pub mod OnePart

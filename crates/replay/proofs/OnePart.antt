@@ -19,7 +19,7 @@ use Rattle.batch.specs.Batch.{machineAfter, parsedAnswers}
 use Rattle.batch.specs.Code.{Batched}
 use Rattle.batch.specs.declared.Batch.{Batch}
 use Rattle.replay.specs.Parts.{Held, begunLine, putOut, left, settled, replayed}
-use Rattle.replay.proofs.Keeping.{Kept, settled-same}
+use Rattle.held.proofs.Keeping.{Kept, settled-same}
 use Rattle.replay.proofs.OneLine.{OneParsed, one-parsed}
 
 -- bytes laid at the front are its front

@@ -1,20 +1,8 @@
--- What the code's record stands for.
+-- What the code's record stands for, and the number that says that a text ends.
 use Prim.Native.Nat.{ℕ}
 use mathlib.Core.Bool.{Bool, not}
-use mathlib.Core.List.{List}
 use lib.Dec.{eqb}
-use Rattle.sa110.specs.State.{machineIn}
-use Rattle.replay.specs.Parts.{Held, heldFrom, Parted, partedFrom}
-use Rattle.replay.specs.declared.Replay.{Replay}
-use Rattle.replay.specs.declared.Part.{Part}
-
--- the record, with memory and cache store
-abbrev pub heldOf : List ℕ → List ℕ → Replay → Held
-heldOf memory store r = heldFrom (machineIn memory store (r .state) (r .cp15)) (r .lines) (r .held) (r .waiting) (r .stopped) (r .begun) (r .pending)
-
--- what a part leaves, with the lent lists
-abbrev pub partedOf : List ℕ → List ℕ → List ℕ → Part → Parted
-partedOf memory store out r = partedFrom (heldOf memory store (r .replay)) (r .replay .taken) (r .replay .written) out (r .refusal)
+pub use Rattle.held.specs.Code.{heldOf, partedOf}
 
 -- not 0: the text ends
 abbrev pub flag : ℕ → Bool

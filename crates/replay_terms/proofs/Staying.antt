@@ -30,7 +30,7 @@ use Rattle.batch.specs.Batch.{refused13, linesLimit, machineAfter, parsedAnswer
 use Rattle.replay.specs.Replay.{zeroMachine, zeroMemory}
 use Rattle.replay.specs.Parts as parts
 use Rattle.replay.specs.Parts.{Held, begunLine, waitingBytes, Parted, putOut, linesAtMost, carried, settled, replayed}
-use Rattle.replay.proofs.Keeping.{kept-all, kept-means}
+use Rattle.held.proofs.Keeping.{kept-all, kept-means}
 use Rattle.replay.proofs.Parting.{roomy}
 use Rattle.batch.proofs.Printing.{made-few}
 use Rattle.replay_terms.specs.Uses.{Use, endsWith, used, IsKept, Well, StaysWell, StaysKept, StartsWell}

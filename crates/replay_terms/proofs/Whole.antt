@@ -14,7 +14,7 @@ use Rattle.pieces.specs.Pieces.{isFeed}
 use Rattle.batch.specs.Batch.{linesLimit, machineAfter}
 use Rattle.replay.specs.Replay.{replayFrom}
 use Rattle.replay.specs.Parts.{Held, begunLine, waitingBytes, Parted, putOut, linesAtMost, settled, replayed}
-use Rattle.replay.proofs.Keeping.{kept-means}
+use Rattle.held.proofs.Keeping.{kept-means}
 use Rattle.replay_terms.specs.Uses.{
   Use,
   endsWith,

@@ -5,10 +5,10 @@ use mathlib.Core.Path.{_∙_, sym, ap}
 use lib.ListN.{drop, length-drop}
 use Rattle.sa110.specs.State.{machineIn}
 use Rattle.pieces.specs.Pieces.{padded}
-use Rattle.replay.proofs.Keeping.{settled-departing, settled-open, settled-more, to-end}
+use Rattle.held.proofs.Keeping.{settled-departing, settled-open, settled-more, to-end}
 use borrow.Author.Needs.{needs}
-use Rattle.replay.proofs.settled.Statement.{statement}
-use Rattle.replay.proofs.settled.Tie as tie
+use Rattle.held.proofs.settled.Statement.{statement}
+use Rattle.held.proofs.settled.Tie as tie
 
 add-t9 : tie.Need-add-t9
 add-t9 c = search needs

@@ -1,10 +1,10 @@
 use borrow.Author.Needs.{needs}
 use denote.Ref.{now}
 use Rattle.sa110.specs.State.{startedOf}
-use Rattle.replay.proofs.Keeping.{start-is}
+use Rattle.held.proofs.Keeping.{start-is}
 use borrow.Author.Needs.{needs}
-use Rattle.replay.proofs.replay_start.Statement.{statement}
-use Rattle.replay.proofs.replay_start.Tie as tie
+use Rattle.held.proofs.replay_start.Statement.{statement}
+use Rattle.held.proofs.replay_start.Tie as tie
 
 start-requires : tie.Need-start-requires
 start-requires c κs = search needs

@@ -14,7 +14,7 @@ use Rattle.values.proofs.Cases.{case, and-left, and-right, and-false}
 use Rattle.machine.specs.Machine.{Machine}
 use Rattle.pieces.specs.Pieces.{padded, isFeed}
 use Rattle.batch.specs.Batch.{linesLimit}
-use Rattle.replay.specs.Parts.{Held, heldFrom, kept, partedFrom, startReplay, putOut, settled}
+use Rattle.held.specs.Held.{Held, heldFrom, kept, partedFrom, startReplay, putOut, settled}
 use Rattle.step.specs.Start.{Started, started}
 
 -- ---- the test of the fields

@@ -1,10 +1,10 @@
 use borrow.Author.Needs.{needs}
 use denote.Ref.{now}
-use Rattle.replay.specs.Code.{heldOf}
-use Rattle.replay.proofs.Keeping.{put-out-is}
+use Rattle.held.specs.Code.{heldOf}
+use Rattle.held.proofs.Keeping.{put-out-is}
 use borrow.Author.Needs.{needs}
-use Rattle.replay.proofs.put_out.Statement.{statement}
-use Rattle.replay.proofs.put_out.Tie as tie
+use Rattle.held.proofs.put_out.Statement.{statement}
+use Rattle.held.proofs.put_out.Tie as tie
 
 least-requires : tie.Need-least-requires
 least-requires c κs = search needs

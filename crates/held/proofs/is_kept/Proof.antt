@@ -1,9 +1,9 @@
 use borrow.Author.Needs.{needs}
 use mathlib.Core.Path.{sym, _∙_}
-use Rattle.replay.proofs.Keeping.{kept-no-lines, kept-no-held, kept-no-waiting, kept-no-feed, kept-all}
+use Rattle.held.proofs.Keeping.{kept-no-lines, kept-no-held, kept-no-waiting, kept-no-feed, kept-all}
 use borrow.Author.Needs.{needs}
-use Rattle.replay.proofs.is_kept.Statement.{statement}
-use Rattle.replay.proofs.is_kept.Tie as tie
+use Rattle.held.proofs.is_kept.Statement.{statement}
+use Rattle.held.proofs.is_kept.Tie as tie
 
 returns : tie.Need-returns
 returns c = let a = c .before .args in
