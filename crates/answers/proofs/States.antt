@@ -16,11 +16,11 @@ use Rattle.soundness_test.specs.Formed.{Formed}
 use Rattle.step.specs.Meets.{stateRefusal}
 use Rattle.step.proofs.StateRefusals.{accepts}
 use Rattle.sa110.specs.State.{bytesOf, machineIn}
-use Rattle.sa110.specs.declared.SlotBytes.{SlotBytes}
-use Rattle.sa110.specs.declared.State.{State}
+use Rattle.state.specs.declared.SlotBytes.{SlotBytes}
+use Rattle.state.specs.declared.State.{State}
 use Rattle.sa110.proofs.Shapes.{Row, rows-of, formed-of, listsIn, scalarsIn}
-use Rattle.sa110.proofs.SlotBytes as slot
-use Rattle.sa110.proofs.State as state
+use Rattle.state.proofs.SlotBytes as slot
+use Rattle.state.proofs.State as state
 
 -- what an array of mapped elements tells of the elements
 each-mapped : {A B : Type 0} (g : A → B) (f : B → List Val → Fml) (xs : List A) (us : List Val) → shadow (each B f (map g xs) us)

@@ -76,7 +76,7 @@ fn clean(
     let found = cache::find(lines, va);
     match found {
         Search::At(i) => {
-            let n = cache::clean_line(memory, words, bytes, s.used, lines, store, i);
+            let n = cleans::clean_line(memory, words, bytes, s.used, lines, store, i);
             machine::with_used(machine::sent(s, n.halves), n.used)
         },
         Search::Nothing => s,

@@ -17,7 +17,7 @@ use Rattle.refusals.specs.Refusals.{row5, callRows}
 use Rattle.refusals.proofs.Rows.{rows-passed}
 use Rattle.trace.specs.Fold.{answersOf, finalOf}
 use Rattle.machine.specs.Machine.{Machine, withRegisters, withCounts, Stepped}
-use Rattle.soundness_test.specs.Soundness.{registersSound, sound}
+use Rattle.soundness.specs.Soundness.{registersSound, sound}
 use Rattle.access.specs.Access.{access}
 use Rattle.cp15.specs.Operations.{read, write}
 use Rattle.step.specs.Meets.{stateMeets, stateRefusal, refusal}

@@ -18,7 +18,7 @@ use Rattle.translation.specs.declared.Place.{Place}
 use Rattle.translation.specs.declared.Translation.{Translation}
 use Rattle.translation.specs.declared.Translation.the-variants.{Flat, Held, Walked, Failed}
 use Rattle.machine.specs.Machine.{Machine, physicalOf}
-use Rattle.soundness_test.specs.Soundness.{registersSound, sound}
+use Rattle.soundness.specs.Soundness.{registersSound, sound}
 use Rattle.reach.specs.Reach.{decision}
 use Rattle.step.specs.Meets.{refusal}
 use Rattle.step.proofs.StateRefusals.{refusal-rows}

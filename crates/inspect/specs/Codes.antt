@@ -1,9 +1,9 @@
 -- What a look shows, as a number.
 use Prim.Native.Nat.{ℕ, _+_, _*_}
 use Rattle.trace.specs.Codes.{kindUnit}
-use Rattle.sa110.specs.declared.Part.{Part}
-use Rattle.sa110.specs.declared.Part.the-variants.{OfStore, OfMemory, Empty}
-use Rattle.sa110.specs.Look.{shown}
+use Rattle.look.specs.declared.Part.{Part}
+use Rattle.look.specs.declared.Part.the-variants.{OfStore, OfMemory, Empty}
+use Rattle.look.specs.Look.{shown}
 use Rattle.machine.specs.Machine.{Machine}
 
 -- 2^32 + the line's offset in the cache store, 2 × 2^32 + its offset in memory, or 0

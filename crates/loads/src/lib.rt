@@ -78,7 +78,7 @@ fn load_fill(
     let va = translation::cleared(a);
     let k = a.kind;
     let i = victim(pointers, va);
-    let sent = cache::fill(
+    let sent = fills::fill(
         memory,
         words,
         bytes,
@@ -112,7 +112,7 @@ fn load_uncached(
 {
     let pa = p.address;
     let k = a.kind;
-    let used = buffer::ready_access(memory, words, bytes, s.used, pa, a.width);
+    let used = masks::ready_access(memory, words, bytes, s.used, pa, a.width);
     let v = words::load(memory, pa.0 as usize, a.width);
     Outcome {
         scalars: machine::with_used(s, used),

@@ -9,7 +9,7 @@ use Rattle.walk.specs.Walk.{first, second, walk}
 use Rattle.tlb.specs.Tlb.{covers, lookup, translated, apOf, placed, flushed, dropped}
 use Rattle.buffer.specs.Buffer as buffer
 use Rattle.cache.specs.Dcache as cache
-use Rattle.soundness_test.specs.Soundness.{sound, tagsSound, tagTwice, entrySound, lineSound, slotSound, bufferSound, registersSound, countsSound, zeroOutside}
+use Rattle.soundness.specs.Soundness.{sound, tagsSound, tagTwice, entrySound, lineSound, slotSound, bufferSound, registersSound, countsSound, zeroOutside}
 use Rattle.translation.specs.Alignment.{cleared}
 use Rattle.translation.specs.Translation.{translation, walkedOnly, checkedBy, decided}
 use Rattle.translation.specs.Faults.{faultSet}

@@ -1,3 +1,2 @@
 pub mod Computing
 pub mod MarkedCases
-pub mod PlainCases

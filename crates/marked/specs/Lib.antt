@@ -1,2 +1,1 @@
 pub mod MarkedCases
-pub mod PlainCases

@@ -15,8 +15,7 @@ use Rattle.printed.specs.Printed.{lineFeed}
 use Rattle.fields.specs.Lines.{Line, lineFrom, isLine}
 use Rattle.fields.specs.Parse.{firstLine, sizeOf, decided, more, open-line, departing, Parsed, parsedFrom, withLine, parse}
 use Rattle.fields.proofs.First.{first-ended, first-open, first-goes-on, no-feed-open, long-departs, open-departs, long-decided, ended-decided}
-use Rattle.replay.specs.Parts.{isFeed}
-use Rattle.replay.specs.Code.{onto}
+use Rattle.pieces.specs.Pieces.{isFeed, onto}
 
 -- ---- the bytes that go onto a line
 

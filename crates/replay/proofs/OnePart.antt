@@ -14,10 +14,12 @@ use Rattle.printed.specs.Printed.{printed}
 use Rattle.printed.specs.Code.{Laid}
 use Rattle.fields.specs.Parse.{Parsed, parse, more}
 use Rattle.sa110.specs.State.{machineIn}
-use Rattle.replay.specs.Parts.{Held, begunLine, putOut, machineAfter, parsedAnswers, left, settled, replayed}
-use Rattle.replay.specs.Code.{onto, Batched}
-use Rattle.replay.specs.declared.Batch.{Batch}
-use Rattle.replay.proofs.Keeping.{Kept, settled-same}
+use Rattle.pieces.specs.Pieces.{onto}
+use Rattle.batch.specs.Batch.{machineAfter, parsedAnswers}
+use Rattle.batch.specs.Code.{Batched}
+use Rattle.batch.specs.declared.Batch.{Batch}
+use Rattle.replay.specs.Parts.{Held, begunLine, putOut, left, settled, replayed}
+use Rattle.held.proofs.Keeping.{Kept, settled-same}
 use Rattle.replay.proofs.OneLine.{OneParsed, one-parsed}
 
 -- bytes laid at the front are its front

@@ -15,9 +15,10 @@ use Rattle.printed.specs.Code.{Laid}
 use Rattle.fields.specs.Parse.{Parsed, parse, more}
 use Rattle.fields.proofs.First.{parse-within}
 use Rattle.sa110.specs.State.{machineIn}
-use Rattle.replay.specs.Code.{Batched}
-use Rattle.replay.specs.declared.Batch.{Batch}
-use Rattle.replay.specs.Parts.{Held, partedFrom, putOut, machineAfter, parsedAnswers, left, settled, replayed}
+use Rattle.batch.specs.Batch.{machineAfter, parsedAnswers}
+use Rattle.batch.specs.Code.{Batched}
+use Rattle.batch.specs.declared.Batch.{Batch}
+use Rattle.replay.specs.Parts.{Held, partedFrom, putOut, left, settled, replayed}
 
 -- bytes laid at the front, with nothing waiting, are put out
 pub put-whole : (m : Machine) (lines made verdict : ℕ) (behind bytes out after : List ℕ) (end most taken : ℕ) → Laid out after 0 end most bytes

@@ -1,21 +1,17 @@
 -- Document 02, One, "Replay of a trace": the output's bytes as a function of the input's bytes.
 use Prim.Native.Nat.{ℕ}
 use mathlib.Core.Bool.{cond}
-use mathlib.Core.List.{List, [], _∷_, _++_}
+use mathlib.Core.List.{List, [], _++_}
 use lib.ListN.{replicate}
 use Rattle.values.specs.declared.Call.{Call}
 use Rattle.values.specs.declared.Answer.{Answer}
-use Rattle.values.specs.declared.Answer.the-variants as answer
 use Rattle.trace.specs.Fold.{answersOf}
 use Rattle.printed.specs.Printed.{printed}
 use Rattle.fields.specs.Lines.{Line, linesOf, callsOf, departs}
 use Rattle.machine.specs.Machine.{Machine}
 use Rattle.step.specs.Start.{started}
 use Rattle.step.specs.Run.{next, answered}
-
--- "13 when a line departs from this, before all others; it is printed as refused and the replay stops there."
-abbrev pub refused13 : List Answer
-refused13 = answer.Refused 13 ∷ []
+use Rattle.batch.specs.Batch.{refused13}
 
 -- on any machine, by its step
 module _ {S : Type 0} (step : S → Call → S) (answers : S → Call → Answer) where

@@ -2,268 +2,17 @@
 ghost use mathlib.Core.Path.{_≡_};
 ghost use mathlib.Core.Bool.{true, cond, _&&_};
 ghost use lib.Dec.{eqb, leb};
-ghost use mathlib.Core.List.{List, [], _++_};
-ghost use Prim.Native.Nat.{ℕ, _+_, _-_, _*_, _/_, _≤_, _<_, min};
-ghost use lib.ListN.{length, take, drop};
-ghost use Rattle.values.specs.Lists.{any};
-ghost use Rattle.sa110.specs.State.{machineIn};
+ghost use Prim.Native.Nat.{_/_, _≤_, min};
+ghost use lib.ListN.{length};
+ghost use Rattle.batch.specs.Batch.{linesLimit};
 ghost use Rattle.replay.specs.Parts as spec;
 ghost use Rattle.replay.specs.Code as code;
-use sa110::State;
-use values::Cp15;
+pub use held::Part;
+pub use held::Replay;
+pub use held::replay_start;
 
 // The most lines that one part replays.
 const BATCH: usize = 1024;
-
-// The most lines behind which a part is not refused.
-const LINES: u64 = 0x7FFFFFFFFFFFFFFF;
-
-// The code of a refusal by 13.
-const DEPARTED: u64 = 0x20000000D;
-
-// What is held between two parts. `taken` and `written` are what the last part took of its text and wrote into its slice.
-#[repr(C)]
-pub struct Replay {
-    pub state: State,
-    pub cp15: Cp15,
-    pub lines: u64,
-    pub held: usize,
-    pub waiting: usize,
-    pub stopped: u32,
-    pub begun: [u8; 64],
-    pub pending: [u8; 64],
-    pub taken: usize,
-    pub written: usize,
-}
-
-// What a part or a start leaves beside the lent lists: the refusal is 3 of a part, 1 or 2 of a start, else 0.
-pub struct Part {
-    pub replay: Replay,
-    pub refusal: u32,
-}
-
-// What replayed lines leave beside the lent lists.
-pub struct Batch {
-    pub state: State,
-    pub cp15: Cp15,
-    pub made: usize,
-    pub end: usize,
-    pub verdict: u32,
-    pub written: usize,
-}
-
-// The start: a fresh state, with nothing replayed; 1 or 2 where the library's start is refused, else 0.
-pub fn replay_start(memory: &[u8], store: &[u8]) -> Part
-    ensures { λ r. ⌜ code.partedOf (now (memory .entry)) (now (store .entry)) [] r ≡ spec.startReplay (now (memory .entry)) (now (store .entry)) ⌝ }
-{
-    let s = sa110::start(memory, store);
-    let state = s.state;
-    let cp15 = s.cp15;
-    let replay = Replay {
-        state,
-        cp15,
-        lines: 0,
-        held: 0,
-        waiting: 0,
-        stopped: 0,
-        begun: [0u8; 64],
-        pending: [0u8; 64],
-        taken: 0,
-        written: 0,
-    };
-    Part {
-        replay,
-        refusal: s.refusal,
-    }
-}
-
-// Whether a line feed stands in the first n bytes.
-fn has_feed(bytes: &[u8], n: usize) -> bool
-    requires { ⌜ n ≤ length (now bytes) ⌝ }
-    ensures { λ r. ⌜ r ≡ any spec.isFeed (take n (now (bytes .entry))) ⌝ }
-{
-    let mut i: usize = 0;
-    while i < n {
-        if bytes[i] == 10 {
-            return true;
-        }
-        i += 1;
-    }
-    false
-}
-
-// Whether a part is not refused, by the record's fields.
-fn is_kept(lines: u64, held: usize, waiting: usize, begun: [u8; 64]) -> bool
-    ensures { λ r. ⌜ r ≡ spec.kept lines held waiting begun ⌝ }
-{
-    if lines > LINES {
-        return false;
-    }
-    if held > 63 {
-        return false;
-    }
-    if waiting > 64 {
-        return false;
-    }
-    if has_feed(&begun, held) {
-        return false;
-    }
-    true
-}
-
-// The bytes of a list from a place up to another, in a list of 64.
-fn padded(bytes: &[u8], from: usize, end: usize) -> [u8; 64]
-    requires { ⌜ (from ≤ end) × (end ≤ length (now bytes)) × (end ≤ from + 64) ⌝ }
-    ensures { λ r. ⌜ r ≡ spec.padded (take (end - from) (drop from (now (bytes .entry)))) ⌝ }
-{
-    let mut out = [0u8; 64];
-    let mut i: usize = 0;
-    while i < end - from {
-        out[i] = bytes[from + i];
-        i += 1;
-    }
-    out
-}
-
-// Copies the first n bytes of a list to the front of another.
-fn copy(bytes: &[u8], n: usize, out: &mut [u8])
-    requires { ⌜ (n ≤ length (now bytes)) × (n ≤ length (now out)) ⌝ }
-    ensures { λ _. ⌜ now (out .exit) ≡ take n (now (bytes .entry)) ++ drop n (now (out .entry)) ⌝ }
-{
-    let mut i: usize = 0;
-    while i < n {
-        out[i] = bytes[i];
-        i += 1;
-    }
-}
-
-// The smaller of two numbers.
-fn least(a: usize, b: usize) -> usize
-    ensures { λ r. ⌜ r ≡ min a b ⌝ }
-{
-    if a < b { a } else { b }
-}
-
-// Puts the bytes of a text, through its first line feed, behind a line begun, up to 64 bytes: how many.
-fn join(line: &mut [u8], held: usize, text: &[u8]) -> usize
-    requires { ⌜ (length (now line) ≡ 64) × (held ≤ 63) ⌝ }
-    ensures { λ r. ⌜ (take (held + r) (now (line .exit)) ≡ take held (now (line .entry)) ++ code.onto (64 - held) (now (text .entry)))
-        × (r ≡ length (code.onto (64 - held) (now (text .entry)))) × (held + r ≤ 64) × (r ≤ length (now (text .entry))) ⌝ }
-{
-    let mut i: usize = 0;
-    while held + i < 64 {
-        if i == text.len() {
-            return i;
-        }
-        let b = text[i];
-        line[held + i] = b;
-        i += 1;
-        if b == 10 {
-            return i;
-        }
-    }
-    i
-}
-
-// Writes the first n bytes of a list at the front of the slice, as many as it holds; the others wait.
-fn put_out(replay: Replay, bytes: &[u8], n: usize, out: &mut [u8], taken: usize) -> Part
-    requires { ⌜ (n ≤ length (now bytes)) × (n ≤ 64) ⌝ }
-    ensures { λ r. ⌜ ((memory store : List ℕ) → code.partedOf memory store (now (out .exit)) r
-        ≡ spec.putOut (code.heldOf memory store replay) (take n (now (bytes .entry))) (now (out .entry)) taken) ⌝ }
-{
-    let k = least(n, out.len());
-    copy(bytes, k, out);
-    let pending = padded(bytes, k, n);
-    let mut after = replay;
-    after.waiting = n - k;
-    after.pending = pending;
-    after.taken = taken;
-    after.written = k;
-    Part {
-        replay: after,
-        refusal: 0,
-    }
-}
-
-// What is held behind replayed lines of a text.
-fn settled(b: Batch, lines: u64, text: &[u8]) -> Replay
-    requires { ⌜ (b .end ≤ length (now text)) × (lines ≤ spec.linesLimit) × (b .made ≤ 1024)
-        × (b .verdict ≡ 1 → length (now text) ≤ b .end + 63) ⌝ }
-    ensures { λ r. ⌜ ((memory store : List ℕ) → code.heldOf memory store r
-        ≡ spec.settled (machineIn memory store (b .state) (b .cp15)) lines (b .made) (b .verdict) (drop (b .end) (now (text .entry)))) ⌝ }
-{
-    let state = b.state;
-    let cp15 = b.cp15;
-    let mut r = Replay {
-        state,
-        cp15,
-        lines: lines + b.made as u64,
-        held: 0,
-        waiting: 0,
-        stopped: 0,
-        begun: [0u8; 64],
-        pending: [0u8; 64],
-        taken: 0,
-        written: 0,
-    };
-    if b.verdict == fields::DEPARTS {
-        r.lines = lines + b.made as u64 + 1;
-        r.stopped = 1;
-        return r;
-    }
-    if b.verdict == fields::OPEN {
-        let begun = padded(text, b.end, text.len());
-        r.held = text.len() - b.end;
-        r.begun = begun;
-        return r;
-    }
-    r
-}
-
-// Where a line departed, what is printed of it, laid behind the others; the place behind them all.
-fn put_departed(out: &mut [u8], at: usize, line: u64, verdict: u32) -> usize
-    requires { ⌜ (line < 10000000000000000000) × (verdict ≡ 2 → at + 34 ≤ length (now out)) ⌝ }
-    ensures { λ r. ⌜ code.Departed (now (out .entry)) (now (out .exit)) at r line verdict ⌝ }
-{
-    if verdict == fields::DEPARTS {
-        return printed::put_line(out, at, line, DEPARTED, false);
-    }
-    at
-}
-
-// At most n lines of a text, replayed and printed.
-fn replay_lines(
-    state: State,
-    cp15: Cp15,
-    memory: &mut [u8],
-    store: &mut [u8],
-    text: &[u8],
-    ends: bool,
-    lines: u64,
-    n: usize,
-    out: &mut [u8],
-) -> Batch
-    requires { ⌜ (n ≤ 1024) × (n * 34 ≤ length (now out)) × (lines ≤ spec.linesLimit) ⌝ }
-    ensures { λ r. ⌜ code.Batched (machineIn (now (memory .entry)) (now (store .entry)) state cp15) ends lines n (now (text .entry)) (now (out .entry))
-        (now (memory .exit)) (now (store .exit)) (now (out .exit)) r ⌝ }
-{
-    let mut calls = [0u32; 5120];
-    let mut answers = [0u64; 1024];
-    let p = fields::parse(text, ends, &mut calls, n);
-    let made = p.made;
-    let r = sa110::run(state, cp15, memory, store, &calls[..made * 5], &mut answers);
-    let after = r.state;
-    let left = r.cp15;
-    let written = printed::print(&calls, &answers, made, lines + 1, out);
-    Batch {
-        state: after,
-        cp15: left,
-        made,
-        end: p.end,
-        verdict: p.verdict,
-        written: put_departed(out, written, lines + 1 + made as u64, p.verdict),
-    }
-}
 
 // Whether a text of n bytes ends and all of it was taken.
 fn is_last(ends: bool, taken: usize, n: usize) -> bool
@@ -294,7 +43,7 @@ fn replay_many(
     ends: bool,
     out: &mut [u8],
 ) -> Part
-    requires { ⌜ (replay .lines ≤ spec.linesLimit) × (replay .held ≡ 0) × (34 ≤ length (now out)) ⌝ }
+    requires { ⌜ (replay .lines ≤ linesLimit) × (replay .held ≡ 0) × (34 ≤ length (now out)) ⌝ }
     ensures { λ r. ⌜ code.partedOf (now (memory .exit)) (now (store .exit)) (now (out .exit)) r
         ≡ spec.replayed ends (min (length (now (out .entry)) / 34) 1024) (code.heldOf (now (memory .entry)) (now (store .entry)) replay)
         (now (text .entry)) (now (out .entry)) ⌝ }
@@ -302,9 +51,9 @@ fn replay_many(
     let state = replay.state;
     let cp15 = replay.cp15;
     let lines = replay.lines;
-    let n = least(out.len() / printed::WIDEST, BATCH);
-    let b = replay_lines(state, cp15, memory, store, text, ends, lines, n, out);
-    let mut after = settled(b, lines, text);
+    let n = pieces::least(out.len() / printed::WIDEST, BATCH);
+    let b = batch::replay_lines(state, cp15, memory, store, text, ends, lines, n, out);
+    let mut after = held::settled(b, lines, text);
     after.taken = taken_by(b.verdict, b.end, text.len());
     after.written = b.written;
     Part {
@@ -332,10 +81,10 @@ fn replay_one(
     let held = replay.held;
     let mut line = replay.begun;
     let mut printed = [0u8; 34];
-    let taken = join(&mut line, held, text);
+    let taken = pieces::join(&mut line, held, text);
     let whole = &line[..held + taken];
     let last = is_last(ends, taken, text.len());
-    let b = replay_lines(
+    let b = batch::replay_lines(
         state,
         cp15,
         memory,
@@ -346,8 +95,8 @@ fn replay_one(
         1,
         &mut printed,
     );
-    let after = settled(b, lines, whole);
-    put_out(
+    let after = held::settled(b, lines, whole);
+    held::put_out(
         after,
         &printed,
         b.written,
@@ -386,20 +135,6 @@ fn replay_text(
     replay_one(replay, memory, store, text, ends, out)
 }
 
-// A replay that a part leaves as it was, but for what was taken and written.
-fn passed(replay: Replay, taken: usize, refusal: u32) -> Part
-    ensures { λ r. ⌜ ((memory store out : List ℕ) → code.partedOf memory store out r
-        ≡ spec.partedFrom (code.heldOf memory store replay) taken 0 out refusal) ⌝ }
-{
-    let mut after = replay;
-    after.taken = taken;
-    after.written = 0;
-    Part {
-        replay: after,
-        refusal,
-    }
-}
-
 // A part of a text; `ends` is not 0 where the text ends with it.
 pub fn replay_part(
     replay: Replay,
@@ -414,14 +149,14 @@ pub fn replay_part(
 {
     let begun = replay.begun;
     let pending = replay.pending;
-    if is_kept(replay.lines, replay.held, replay.waiting, begun) {
+    if held::is_kept(replay.lines, replay.held, replay.waiting, begun) {
         if replay.waiting != 0 {
-            return put_out(replay, &pending, replay.waiting, out, 0);
+            return held::put_out(replay, &pending, replay.waiting, out, 0);
         }
         if replay.stopped != 0 {
-            return passed(replay, text.len(), 0);
+            return held::passed(replay, text.len(), 0);
         }
         return replay_text(replay, memory, store, text, ends != 0, out);
     }
-    passed(replay, 0, 3)
+    held::passed(replay, 0, 3)
 }

@@ -41,7 +41,8 @@ use Rattle.step.specs.Run.{next, answered}
 use Rattle.terms.specs.Term1.{ValueOrFault}
 use Rattle.terms.proofs.Answers.{call-by-refusal}
 use Rattle.answers.proofs.Ranges.{refusal-low}
-use Rattle.replay.specs.Replay.{refused13, lineAnswers}
+use Rattle.batch.specs.Batch.{refused13}
+use Rattle.replay.specs.Replay.{lineAnswers}
 use Rattle.replay_terms.specs.Printed.{AsMany, Without13, ThirteenLast, storesOrWrites, ZeroPrinted}
 use Rattle.replay_terms.proofs.Printing.{answers-counted}
 

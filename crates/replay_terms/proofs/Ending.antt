@@ -17,9 +17,11 @@ use Rattle.fields.specs.Parse.{Parsed, parse}
 use Rattle.fields.proofs.First.{undecided}
 use Rattle.fields.proofs.Calls.{parse-calls}
 use Rattle.step.specs.Run.{next, answered}
+use Rattle.pieces.specs.Pieces.{isFeed}
+use Rattle.batch.specs.Batch.{machineAfter, parsedAnswers}
 use Rattle.replay.specs.Replay.{prints}
-use Rattle.replay.specs.Parts.{Held, begunLine, waitingBytes, isFeed, kept, Parted, putOut, linesAtMost, machineAfter, parsedAnswers, replayed}
-use Rattle.replay.proofs.Keeping.{kept-means}
+use Rattle.replay.specs.Parts.{Held, begunLine, waitingBytes, kept, Parted, putOut, linesAtMost, replayed}
+use Rattle.held.proofs.Keeping.{kept-means}
 use Rattle.replay_terms.specs.Uses.{Use, endsWith, used, fed, toPrint, WaitingThere, IsKept, NothingComes, GoesOn, Repeated}
 use Rattle.replay_terms.proofs.Reading.{callsRead}
 use Rattle.replay_terms.proofs.Printing.{restOf, to-print, answers-counted}

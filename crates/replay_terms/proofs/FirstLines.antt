@@ -13,7 +13,7 @@ use Rattle.printed.specs.Printed.{lineFeed}
 use Rattle.fields.specs.Lines.{lineFrom, ontoLine, linesOf, isLine}
 use Rattle.fields.specs.Parse.{firstLine, sizeOf, decided}
 use Rattle.fields.proofs.First.{first-ended, first-open, first-goes-on, first-within, long-departs}
-use Rattle.replay.specs.Parts.{isFeed}
+use Rattle.pieces.specs.Pieces.{isFeed}
 
 -- the lines of a text that has something are its first line and those behind it
 pub lines-first : (b : ℕ) (bs : List ℕ) → linesOf (b ∷ bs) ≡ firstLine (b ∷ bs) ∷ linesOf (drop (length (firstLine (b ∷ bs) .bytes)) bs)

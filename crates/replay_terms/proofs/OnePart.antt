@@ -14,23 +14,11 @@ use Rattle.printed.specs.Printed.{printed}
 use Rattle.fields.specs.Parse.{firstLine, sizeOf, Parsed, parse, more}
 use Rattle.fields.proofs.First.{first-goes-on, no-feed-open, parse-within}
 use Rattle.step.specs.Run.{next, answered}
+use Rattle.pieces.specs.Pieces.{isFeed}
+use Rattle.batch.specs.Batch.{machineAfter, parsedAnswers}
 use Rattle.replay.specs.Replay.{prints}
 use Rattle.replay.specs.Parts as parts
-use Rattle.replay.specs.Parts.{
-  Held,
-  begunLine,
-  waitingBytes,
-  isFeed,
-  kept,
-  partedFrom,
-  putOut,
-  linesAtMost,
-  machineAfter,
-  parsedAnswers,
-  settled,
-  replayed,
-  part,
-}
+use Rattle.replay.specs.Parts.{Held, begunLine, waitingBytes, kept, partedFrom, putOut, linesAtMost, settled, replayed, part}
 use Rattle.replay.proofs.Parting as parting
 use Rattle.replay.proofs.Parting.{roomy}
 use Rattle.replay_terms.specs.Uses.{wrote, toPrint}

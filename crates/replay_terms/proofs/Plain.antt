@@ -21,7 +21,8 @@ use Rattle.terms.specs.Term3.{AllNumbers, Run}
 use Rattle.terms.proofs.Term3.{term3}
 use Rattle.terms.proofs.Positions.{same-rules}
 use Rattle.terms.proofs.Corollaries.{calls-numbers}
-use Rattle.replay.specs.Replay.{refused13, lineAnswers, zeroMemory}
+use Rattle.batch.specs.Batch.{refused13}
+use Rattle.replay.specs.Replay.{lineAnswers, zeroMemory}
 use Rattle.replay_terms.specs.Printed.{PlainReplay, PlainReplayPrinted}
 
 -- ---- the numbers of a line have 32 bits

@@ -19,8 +19,10 @@ use Rattle.fields.specs.Parse.{departing, Parsed, parse}
 use Rattle.fields.proofs.Calls.{parse-calls}
 use Rattle.machine.specs.Machine.{Machine}
 use Rattle.step.specs.Run.{next, answered}
-use Rattle.replay.specs.Replay.{refused13, lineAnswers, prints}
-use Rattle.replay.specs.Parts.{Held, begunLine, waitingBytes, padded, putOut, settled}
+use Rattle.pieces.specs.Pieces.{padded}
+use Rattle.batch.specs.Batch.{refused13}
+use Rattle.replay.specs.Replay.{lineAnswers, prints}
+use Rattle.replay.specs.Parts.{Held, begunLine, waitingBytes, putOut, settled}
 use Rattle.replay_terms.specs.Uses.{wrote, toPrint}
 use Rattle.replay_terms.proofs.Reading.{callsRead, Reads}
 

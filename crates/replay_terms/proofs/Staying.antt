@@ -25,27 +25,14 @@ use Rattle.step.proofs.SoundKept.{start-sound}
 use Rattle.terms.specs.Term3.{AllNumbers}
 use Rattle.terms.proofs.Corollaries.{calls-numbers}
 use Rattle.answers.proofs.Told.{run-told, served-formed}
-use Rattle.replay.specs.Replay.{refused13, zeroMachine, zeroMemory}
+use Rattle.pieces.specs.Pieces.{isFeed}
+use Rattle.batch.specs.Batch.{refused13, linesLimit, machineAfter, parsedAnswers, stops}
+use Rattle.replay.specs.Replay.{zeroMachine, zeroMemory}
 use Rattle.replay.specs.Parts as parts
-use Rattle.replay.specs.Parts.{
-  Held,
-  begunLine,
-  waitingBytes,
-  linesLimit,
-  isFeed,
-  Parted,
-  putOut,
-  linesAtMost,
-  machineAfter,
-  parsedAnswers,
-  stops,
-  carried,
-  settled,
-  replayed,
-}
-use Rattle.replay.proofs.Keeping.{kept-all, kept-means}
+use Rattle.replay.specs.Parts.{Held, begunLine, waitingBytes, Parted, putOut, linesAtMost, carried, settled, replayed}
+use Rattle.held.proofs.Keeping.{kept-all, kept-means}
 use Rattle.replay.proofs.Parting.{roomy}
-use Rattle.replay.proofs.Printing.{made-few}
+use Rattle.batch.proofs.Printing.{made-few}
 use Rattle.replay_terms.specs.Uses.{Use, endsWith, used, IsKept, Well, StaysWell, StaysKept, StartsWell}
 use Rattle.replay_terms.proofs.FirstLines.{open-feedless}
 use Rattle.replay_terms.proofs.Reading.{callsRead, Reads, reads}

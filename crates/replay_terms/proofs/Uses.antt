@@ -14,7 +14,7 @@ use Rattle.printed.specs.Printed.{printed}
 use Rattle.step.specs.Run.{next, answered}
 use Rattle.replay.specs.Replay.{lineAnswers, prints, replayFrom}
 use Rattle.replay.specs.Parts.{Held, begunLine, waitingBytes, kept, Parted, putOut, linesAtMost, replayed, startReplay}
-use Rattle.replay.proofs.Keeping.{kept-means}
+use Rattle.held.proofs.Keeping.{kept-means}
 use Rattle.replay_terms.specs.Uses.{Use, endsWith, used, wrote, fed, toPrint, PartsAgree, NothingHeld, AllPrinted, StartBegins}
 use Rattle.replay_terms.proofs.Printing.{restOf, to-print, put-printed}
 use Rattle.replay_terms.proofs.OnePart.{

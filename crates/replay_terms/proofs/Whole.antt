@@ -10,9 +10,11 @@ use Rattle.values.specs.Lists.{any}
 use Rattle.values.proofs.Cases.{case}
 use Rattle.fields.specs.Lines.{linesOf}
 use Rattle.machine.specs.Machine.{Machine}
+use Rattle.pieces.specs.Pieces.{isFeed}
+use Rattle.batch.specs.Batch.{linesLimit, machineAfter}
 use Rattle.replay.specs.Replay.{replayFrom}
-use Rattle.replay.specs.Parts.{Held, begunLine, waitingBytes, linesLimit, isFeed, Parted, putOut, linesAtMost, machineAfter, settled, replayed}
-use Rattle.replay.proofs.Keeping.{kept-means}
+use Rattle.replay.specs.Parts.{Held, begunLine, waitingBytes, Parted, putOut, linesAtMost, settled, replayed}
+use Rattle.held.proofs.Keeping.{kept-means}
 use Rattle.replay_terms.specs.Uses.{
   Use,
   endsWith,

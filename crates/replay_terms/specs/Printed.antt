@@ -19,7 +19,8 @@ use Rattle.plain.specs.Plain.{plainStart, plainNext, plainAnswered}
 use Rattle.terms.specs.History.{noHistory}
 use Rattle.terms.specs.Rules.{Keeps}
 use Rattle.terms.specs.Positions.{keepsRules}
-use Rattle.replay.specs.Replay.{refused13, lineAnswers, prints, replayFrom, zeroMemory, replay}
+use Rattle.batch.specs.Batch.{refused13}
+use Rattle.replay.specs.Replay.{lineAnswers, prints, replayFrom, zeroMemory, replay}
 
 -- ---- the example
 

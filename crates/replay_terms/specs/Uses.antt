@@ -10,8 +10,9 @@ use Rattle.soundness_test.specs.Formed.{Formed}
 use Rattle.step.specs.Meets.{stateRefusal}
 use Rattle.step.specs.Start.{started}
 use Rattle.step.specs.Run.{next, answered}
+use Rattle.batch.specs.Batch.{linesLimit}
 use Rattle.replay.specs.Replay.{prints, replayFrom, zeroMachine, replay}
-use Rattle.replay.specs.Parts.{Held, begunLine, waitingBytes, linesLimit, kept, Parted, startReplay, part}
+use Rattle.replay.specs.Parts.{Held, begunLine, waitingBytes, kept, Parted, startReplay, part}
 
 -- A use of a part: how many of the bytes still to be taken are offered, whether the caller tells that the text ends, and the slice lent for the output.
 pub record Use : Type 0 where

@@ -1,5 +1,1 @@
-pub mod Packs
 pub mod Shapes
-pub mod Starts
-pub mod Looks
-pub mod Held

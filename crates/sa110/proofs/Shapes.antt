@@ -28,8 +28,8 @@ use Rattle.step.specs.Code.{Serves}
 use Rattle.trace.specs.Fold.{callsIn, leaves}
 use Rattle.step.specs.Run.{leftBy}
 use Rattle.sa110.specs.State.{bytesOf, machineIn, calledOf, ranOf}
-use Rattle.sa110.specs.declared.State.{State}
-use Rattle.sa110.specs.declared.SlotBytes.{SlotBytes}
+use Rattle.state.specs.declared.State.{State}
+use Rattle.state.specs.declared.SlotBytes.{SlotBytes}
 use Rattle.step.proofs.StateRefusals.{Accepts, accepts}
 use Rattle.machine.specs.declared.Outcome.{Outcome}
 use Rattle.machine.specs.declared.Scalars.{Scalars}

@@ -17,7 +17,7 @@ use Rattle.values.proofs.Cases.{case, clash, and-left, and-right, and-both, or-
 use Rattle.values.proofs.Alls.{all-true, all-means}
 use Rattle.buffer.specs.Buffer.{Buffer, slotAt}
 use Rattle.buffer.proofs.Below.{half-bit}
-use Rattle.soundness_test.specs.Soundness.{isZero, slotEmpty, zeroOutside, slotSound, bufferSound}
+use Rattle.soundness.specs.Soundness.{isZero, slotEmpty, zeroOutside, slotSound, bufferSound}
 use Rattle.soundness_laws.proofs.Elements.{each-means, each-of}
 
 -- ---- a place of the write buffer

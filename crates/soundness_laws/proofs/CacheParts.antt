@@ -13,8 +13,8 @@ use Rattle.values.specs.Lists.{all}
 use Rattle.values.specs.Empty.{emptyLine}
 use Rattle.values.specs.declared.Line.{Line}
 use Rattle.values.proofs.Cases.{case, clash, and-left, and-right}
-use Rattle.soundness_test.specs.Soundness.{pointerSound, sameTag, tagTwice, tagsSound, lineEmpty, lineSound}
-use Rattle.soundness_test.proofs.Twice.{twice-none, twice-means}
+use Rattle.soundness.specs.Soundness.{pointerSound, sameTag, tagTwice, tagsSound, lineEmpty, lineSound}
+use Rattle.soundness.proofs.Twice.{twice-none, twice-means}
 use Rattle.soundness_laws.proofs.Elements.{each-means, each-of, choice-yes, choice-no}
 
 -- ---- pointers

@@ -6,7 +6,7 @@ use mathlib.Core.Path.{_≡_, refl, _∙_, ap}
 use lib.ListN.{length}
 use Rattle.buffer.proofs.Lengths.{BufferShape}
 use Rattle.machine.specs.Machine.{Machine, memoryOf}
-use Rattle.soundness_test.specs.Soundness.{sound}
+use Rattle.soundness.specs.Soundness.{sound}
 use Rattle.soundness_test.specs.Meaning.{linesOf, IsSound}
 use Rattle.soundness_test.specs.Formed.{Formed}
 use Rattle.soundness_laws.proofs.ScalarParts.{RegistersAre, CountsAre}

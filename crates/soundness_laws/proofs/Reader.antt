@@ -9,7 +9,7 @@ use Rattle.values.specs.Empty.{emptyEntry, emptyLine}
 use Rattle.values.specs.Lists.{all}
 use Rattle.values.proofs.Cases.{and-left, and-right}
 use Rattle.machine.specs.Machine.{Machine, memoryOf}
-use Rattle.soundness_test.specs.Soundness.{pointerSound, tagsSound, entrySound, lineSound, bufferSound, registersSound, countsSound, sound}
+use Rattle.soundness.specs.Soundness.{pointerSound, tagsSound, entrySound, lineSound, bufferSound, registersSound, countsSound, sound}
 use Rattle.soundness_test.specs.Meaning.{linesOf, IsSound}
 use Rattle.soundness_laws.proofs.Elements.{seven}
 use Rattle.soundness_laws.proofs.CacheParts.{LineIs, Apart, pointers-mean, pointers-of, lines-mean, lines-of, tags-mean, tags-of}

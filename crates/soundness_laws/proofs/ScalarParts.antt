@@ -12,7 +12,7 @@ use Rattle.values.specs.declared.Counts.{Counts}
 use Rattle.values.specs.declared.Line.{Line}
 use Rattle.values.proofs.Cases.{and-left, and-right}
 use Rattle.cache.specs.Dcache.{dirtyHalves}
-use Rattle.soundness_test.specs.Soundness.{registersSound, countsSound}
+use Rattle.soundness.specs.Soundness.{registersSound, countsSound}
 use Rattle.soundness_laws.proofs.Elements.{seven}
 
 -- ---- the registers

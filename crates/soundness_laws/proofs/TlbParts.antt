@@ -11,7 +11,7 @@ use Rattle.values.specs.Empty.{emptyEntry}
 use Rattle.values.specs.declared.Entry.{Entry}
 use Rattle.values.proofs.Cases.{case, and-left, and-right}
 use Rattle.tlb.specs.Tlb.{baseOf}
-use Rattle.soundness_test.specs.Soundness.{entryEmpty, entryInRange, entrySound}
+use Rattle.soundness.specs.Soundness.{entryEmpty, entryInRange, entrySound}
 use Rattle.soundness_laws.proofs.Elements.{each-means, each-of, choice-yes, choice-no, seven}
 
 -- the ranges of a valid one

@@ -15,7 +15,7 @@ use Rattle.values.proofs.Cases.{case}
 use Rattle.words.specs.Words.{Bytes}
 use Rattle.refusals.proofs.Rows.{row-passed, rows-passed, access-accepted}
 use Rattle.step.proofs.StateRefusals.{fitting, state-numbered, refusal-rows}
-use Rattle.soundness_test.specs.Soundness.{sound}
+use Rattle.soundness.specs.Soundness.{sound}
 use Rattle.soundness_test.specs.Meaning.{linesOf}
 use Rattle.soundness_test.specs.Formed.{Formed}
 use Rattle.soundness_laws.proofs.ScalarParts.{CountsAre}

@@ -17,7 +17,7 @@ use Rattle.values.proofs.Cases.{and-left, and-right, and-both}
 use Rattle.refusals.specs.Refusals.{refusalIn, lengthFits, storeFits, row1, row2, row3, row4, row5, callRows}
 use Rattle.refusals.proofs.Rows.{Numbered, row-passed, rows-met}
 use Rattle.machine.specs.Machine.{Machine, memoryOf, storeOf, steppedFrom}
-use Rattle.soundness_test.specs.Soundness.{sound}
+use Rattle.soundness.specs.Soundness.{sound}
 use Rattle.step.specs.Meets.{stateMeets, stateRefusal, refusal}
 use Rattle.step.specs.Call.{served}
 

@@ -3,7 +3,7 @@ use mathlib.Core.Path.{_≡_}
 use mathlib.Core.Bool.{true}
 use lib.ListN.{length}
 use Rattle.machine.specs.Machine.{Machine, memoryOf}
-use Rattle.soundness_test.specs.Soundness.{sound}
+use Rattle.soundness.specs.Soundness.{sound}
 use Rattle.soundness_test.specs.Formed.{Formed}
 
 -- a machine whose state refuses no call: refusals 1 to 4 do not hold, and the lists have their lengths

@@ -11,7 +11,7 @@ use Rattle.values.specs.declared.Call.the-variants.{Read, Write}
 use Rattle.values.specs.declared.Call.the-variants as calls
 use Rattle.refusals.specs.Refusals.{refusalIn, row1, row2, row3, row4, row5, row6, row7, row8, row9, row10, row11, row12}
 use Rattle.machine.specs.Machine.{Machine, memoryOf, storeOf}
-use Rattle.soundness_test.specs.Soundness.{sound}
+use Rattle.soundness.specs.Soundness.{sound}
 
 -- "The start meets 1 and 2"
 abbrev pub startMeets : List ℕ → List ℕ → List (Row ℕ)

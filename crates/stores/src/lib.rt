@@ -85,7 +85,7 @@ fn store_buffered(
         ⌜ LeavesBelow (now (memory .entry)) (now (words .entry)) (now (bytes .entry)) s (now (memory .exit)) (now (words .exit)) (now (bytes .exit)) r
         (λ (m : Machine). spec.storeBuffered m a v p) ⌝ }
 {
-    let used = buffer::store(memory, words, bytes, s.used, p.address, a.width, v);
+    let used = joins::store(memory, words, bytes, s.used, p.address, a.width, v);
     stored(machine::with_used(s, used))
 }
 

@@ -23,9 +23,9 @@ use Rattle.machine.specs.Machine.{Machine, Stepped}
 use Rattle.step.specs.Meets.{startMeets, startRefusal, meets, refusal}
 use Rattle.step.specs.Start as starts
 use Rattle.sa110.specs.State.{machineIn}
-use Rattle.sa110.specs.Held.{EightPlaces, zeroState}
-use Rattle.sa110.proofs.Starts.{fresh-is}
-use Rattle.sa110.proofs.Held.{side-same, held-same}
+use Rattle.state.specs.Held.{EightPlaces, zeroState}
+use Rattle.state.proofs.Starts.{fresh-is}
+use Rattle.state.proofs.Held.{side-same, held-same}
 use Rattle.terms.specs.Term1.{ValueOrFault}
 use Rattle.terms.specs.Callers.{RefusedCallWords, RefusedStartZeros, noRow, FirstRow, CallTable, StartTable, SameCalls, SameRuns, FaultLeaves, CodeTerm1}
 use Rattle.terms.proofs.Answers.{call-by-refusal, start-by-refusal, served-fault}

@@ -27,7 +27,7 @@ use Rattle.step.specs.Call.{Is32}
 use Rattle.step.specs.Run.{run}
 use Rattle.step.proofs.Runs.{numbers-of}
 use Rattle.sa110.specs.State.{machineIn, ranOf}
-use Rattle.sa110.specs.declared.Started.{Started}
+use Rattle.state.specs.declared.Started.{Started}
 use Rattle.sa110.specs.declared.Ran as library
 use Rattle.plain.specs.Plain.{Plain, plainStart, plainRefusal, plainly, plainNext, plainAnswered, plainWrite, plainFinal}
 use Rattle.plain.specs.Run.{PlainLeft, withRefusal, leftBy, plainRun}

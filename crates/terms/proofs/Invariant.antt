@@ -18,7 +18,7 @@ use Rattle.tlb.specs.Tlb.{covers}
 use Rattle.buffer.specs.Buffer.{Backing, slotAt, masks}
 use Rattle.buffer.proofs.Below.{below}
 use Rattle.cache.specs.Dcache.{Dcache, Side}
-use Rattle.soundness_test.specs.Soundness.{sound}
+use Rattle.soundness.specs.Soundness.{sound}
 use Rattle.soundness_test.specs.Formed.{Formed}
 use Rattle.plain.specs.Plain.{Plain}
 use Rattle.terms.specs.History.{Stage, History}

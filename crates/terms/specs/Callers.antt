@@ -18,11 +18,11 @@ use Rattle.step.specs.Start.{started}
 use Rattle.step.specs.Call.{served}
 use Rattle.step.specs.Run.{run}
 use Rattle.sa110.specs.State.{machineIn, calledOf, ranOf, startedOf}
-use Rattle.sa110.specs.Held.{EightPlaces, SameSide, SameHeld, zeroState}
-use Rattle.sa110.specs.declared.State.{State}
+use Rattle.state.specs.Held.{EightPlaces, SameSide, SameHeld, zeroState}
+use Rattle.state.specs.declared.State.{State}
 use Rattle.sa110.specs.declared.Called.{Called}
 use Rattle.sa110.specs.declared.Ran.{Ran}
-use Rattle.sa110.specs.declared.Started.{Started}
+use Rattle.state.specs.declared.Started.{Started}
 
 -- ---- the contracts
 

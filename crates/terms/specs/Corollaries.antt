@@ -16,7 +16,7 @@ use Rattle.step.specs.Meets.{startRefusal}
 use Rattle.step.specs.Start.{started}
 use Rattle.step.specs.Call.{Is32}
 use Rattle.step.specs.Run.{answers, final, run}
-use Rattle.sa110.specs.declared.Started.{Started}
+use Rattle.state.specs.declared.Started.{Started}
 use Rattle.sa110.specs.declared.Ran as library
 use Rattle.plain.specs.Plain.{plainStart, plainFinal}
 use Rattle.plain.specs.Run.{plainRun}

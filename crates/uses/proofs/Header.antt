@@ -12,9 +12,9 @@ use Rattle.machine.specs.Machine.{Machine, fresh}
 use Rattle.step.specs.Meets.{startRefusal}
 use Rattle.step.specs.Start as starts
 use Rattle.step.specs.Run.{answers, final, run}
-use Rattle.sa110.specs.Held.{EightPlaces, zeroState}
-use Rattle.sa110.proofs.Starts.{fresh-is}
-use Rattle.sa110.proofs.Held.{held-same}
+use Rattle.state.specs.Held.{EightPlaces, zeroState}
+use Rattle.state.proofs.Starts.{fresh-is}
+use Rattle.state.proofs.Held.{held-same}
 use Rattle.lent.specs.Coded.{Coded, calledBy, codedOf}
 use Rattle.terms.specs.Corollaries.{callsMade}
 use Rattle.terms.proofs.Answers.{call-by-refusal, start-by-refusal}

@@ -10,7 +10,7 @@ use Rattle.values.specs.declared.Answer.the-variants as answer
 use Rattle.trace.specs.Calls.{isCall, callOf}
 use Rattle.trace.specs.Codes.{codeOf, noCall}
 use Rattle.step.specs.Meets.{startRefusal, refusal}
-use Rattle.sa110.specs.Held.{EightPlaces, SameHeld, zeroState}
+use Rattle.state.specs.Held.{EightPlaces, SameHeld, zeroState}
 use Rattle.terms.specs.Corollaries.{callsMade}
 use Rattle.uses.specs.Uses.{Lent, machine, Starts, Use, one, many, Meets, Chain, callsOf, codesOf, lastOf}
 

@@ -15,7 +15,7 @@ use Rattle.step.specs.Start.{started}
 use Rattle.step.specs.Call.{Is32}
 use Rattle.step.specs.Run as runs
 use Rattle.sa110.specs.State.{machineIn, ranOf, startedOf}
-use Rattle.sa110.specs.declared.State.{State}
+use Rattle.state.specs.declared.State.{State}
 use Rattle.plain.specs.Plain.{plainStart, plainAnswers}
 use Rattle.plain.specs.Run.{plainRun}
 use Rattle.lent.specs.Coded.{calledBy, answeredOf}

@@ -1,4 +1,4 @@
-use Rattle.sa110.proofs.Looks.{part-low}
+use Rattle.look.proofs.Looks.{part-low}
 use Rattle.sa110.specs.State.{machineIn}
 use denote.Ref.{now}
 use borrow.Author.Needs.{needs}

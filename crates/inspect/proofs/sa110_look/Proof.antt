@@ -89,10 +89,10 @@ use denote.Triple.Walked.{says, Stays, stay-dropped, walkOf, AllGo, goes-dropped
 use denote.Exit.{yes}
 use Rattle.sa110.specs.State.{machineIn}
 use Rattle.inspect.specs.Codes.{lookCode}
-use Rattle.sa110.specs.declared.State.{State}
+use Rattle.state.specs.declared.State.{State}
 use Rattle.values.specs.declared.Cp15.{Cp15}
-use Rattle.sa110.proofs.State as S
-use Rattle.sa110.proofs.State.Laws as S′
+use Rattle.state.proofs.State as S
+use Rattle.state.proofs.State.Laws as S′
 use Rattle.values.proofs.Cp15 as T
 use Rattle.values.proofs.Cp15.Laws as T′
 use Rattle.inspect.proofs.look_code as g

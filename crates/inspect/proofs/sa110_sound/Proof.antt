@@ -87,12 +87,12 @@ use denote.Triple.Table.{entered, cited}
 use denote.Triple.Walked.{says, Stays, stay-dropped, walkOf, AllGo, goes-dropped, Walks, ends-at, walked, walk-meets}
 use denote.Exit.{yes}
 use Rattle.values.specs.Bits.{number}
-use Rattle.soundness_test.specs.Soundness as soundness
+use Rattle.soundness.specs.Soundness as soundness
 use Rattle.sa110.specs.State.{machineIn}
-use Rattle.sa110.specs.declared.State.{State}
+use Rattle.state.specs.declared.State.{State}
 use Rattle.values.specs.declared.Cp15.{Cp15}
-use Rattle.sa110.proofs.State as S
-use Rattle.sa110.proofs.State.Laws as S′
+use Rattle.state.proofs.State as S
+use Rattle.state.proofs.State.Laws as S′
 use Rattle.values.proofs.Cp15 as T
 use Rattle.values.proofs.Cp15.Laws as T′
 use Rattle.inspect.proofs.sound_code as g

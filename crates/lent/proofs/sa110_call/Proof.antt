@@ -115,11 +115,11 @@ use denote.Triple.Walked.{
 use denote.Exit.{yes}
 use Rattle.sa110.specs.State.{machineIn}
 use Rattle.lent.specs.Coded.{answeredOf, calledBy}
-use Rattle.sa110.specs.declared.State.{State}
+use Rattle.state.specs.declared.State.{State}
 use Rattle.values.specs.declared.Cp15.{Cp15}
 use Rattle.lent.specs.declared.Answered.{Answered}
-use Rattle.sa110.proofs.State as S
-use Rattle.sa110.proofs.State.Laws as S′
+use Rattle.state.proofs.State as S
+use Rattle.state.proofs.State.Laws as S′
 use Rattle.values.proofs.Cp15 as T
 use Rattle.values.proofs.Cp15.Laws as T′
 use Rattle.lent.proofs.Answered as R

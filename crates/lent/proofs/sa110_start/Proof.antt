@@ -96,15 +96,15 @@ use denote.Triple.Walked.{says, Stays, stay-dropped, stay-ref, walkOf, AllGo, go
 use denote.Exit.{yes}
 use Rattle.step.specs.Start.{started}
 use Rattle.sa110.specs.State.{startedOf}
-use Rattle.sa110.specs.declared.State.{State}
+use Rattle.state.specs.declared.State.{State}
 use Rattle.values.specs.declared.Cp15.{Cp15}
-use Rattle.sa110.specs.declared.Started.{Started}
-use Rattle.sa110.proofs.State as S
-use Rattle.sa110.proofs.State.Laws as S′
+use Rattle.state.specs.declared.Started.{Started}
+use Rattle.state.proofs.State as S
+use Rattle.state.proofs.State.Laws as S′
 use Rattle.values.proofs.Cp15 as T
 use Rattle.values.proofs.Cp15.Laws as T′
-use Rattle.sa110.proofs.Started as R
-use Rattle.sa110.proofs.Started.Laws as R′
+use Rattle.state.proofs.Started as R
+use Rattle.state.proofs.Started.Laws as R′
 use Rattle.sa110.proofs.start as g
 use Rattle.sa110.proofs.start.Symbol as g-def
 use Rattle.sa110.proofs.start.Symbol.{name as #sa110·start}

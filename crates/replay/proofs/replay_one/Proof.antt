@@ -8,7 +8,7 @@ use lib.Seq.{length-take-le}
 use Rattle.fields.proofs.First.{parse-within, parse-few}
 use Rattle.fields.proofs.Calls.{parse-open}
 use Rattle.replay.specs.Code.{heldOf}
-use Rattle.replay.proofs.Keeping.{kept-means}
+use Rattle.held.proofs.Keeping.{kept-means}
 use Rattle.replay.proofs.OnePart.{one-is}
 use borrow.Author.Needs.{needs}
 use Rattle.replay.proofs.replay_one.Statement.{statement}

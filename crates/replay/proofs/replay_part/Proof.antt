@@ -5,7 +5,7 @@ use Prim.Native.Nat.{ℕ}
 use mathlib.Core.Path.{_≡_, sym, _∙_}
 use lib.ListN.{length, length-map}
 use Rattle.replay.specs.Code.{heldOf, flag}
-use Rattle.replay.proofs.Keeping.{kept-means}
+use Rattle.held.proofs.Keeping.{kept-means}
 use Rattle.replay.proofs.Parting.{part-refused, part-waits, part-stopped, part-lines}
 use borrow.Author.Needs.{needs}
 use Rattle.replay.proofs.replay_part.Statement.{statement}

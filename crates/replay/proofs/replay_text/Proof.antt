@@ -5,7 +5,7 @@ use mathlib.Core.Path.{sym, _∙_, ap}
 use lib.ListN.{length}
 use Rattle.replay.specs.Parts.{replayed}
 use Rattle.replay.specs.Code.{heldOf}
-use Rattle.replay.proofs.Keeping.{kept-means}
+use Rattle.held.proofs.Keeping.{kept-means}
 use Rattle.replay.proofs.Parting.{roomy, at-most-many, at-most-one}
 use borrow.Author.Needs.{needs}
 use Rattle.replay.proofs.replay_text.Statement.{statement}

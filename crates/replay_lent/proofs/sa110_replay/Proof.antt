@@ -116,12 +116,12 @@ use denote.Triple.Walked.{
 use denote.Exit.{yes}
 use Rattle.replay.specs.Parts.{part}
 use Rattle.replay.specs.Code.{heldOf, partedOf, flag}
-use Rattle.replay.specs.declared.Replay.{Replay}
-use Rattle.replay.specs.declared.Part.{Part}
-use Rattle.replay.proofs.Replay as S
-use Rattle.replay.proofs.Replay.Laws as S′
-use Rattle.replay.proofs.Part as R
-use Rattle.replay.proofs.Part.Laws as R′
+use Rattle.held.specs.declared.Replay.{Replay}
+use Rattle.held.specs.declared.Part.{Part}
+use Rattle.held.proofs.Replay as S
+use Rattle.held.proofs.Replay.Laws as S′
+use Rattle.held.proofs.Part as R
+use Rattle.held.proofs.Part.Laws as R′
 use Rattle.replay.proofs.replay_part as g
 use Rattle.replay.proofs.replay_part.Symbol as g-def
 use Rattle.replay.proofs.replay_part.Symbol.{name as #replay·replay-part}

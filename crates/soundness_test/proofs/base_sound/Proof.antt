@@ -1,5 +1,5 @@
 use mathlib.Core.Path.{sym}
-use Rattle.soundness_test.proofs.Clauses.{base-section, base-large, base-small}
+use Rattle.soundness.proofs.Clauses.{base-section, base-large, base-small}
 use Rattle.soundness_test.proofs.base_sound.Statement.{statement}
 use Rattle.soundness_test.proofs.base_sound.Tie as tie
 

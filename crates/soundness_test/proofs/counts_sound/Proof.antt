@@ -1,5 +1,5 @@
 use mathlib.Core.Path.{sym}
-use Rattle.soundness_test.proofs.Clauses.{misses-high, hits-high, fills-high, halves-test}
+use Rattle.soundness.proofs.Clauses.{misses-high, hits-high, fills-high, halves-test}
 use borrow.Author.Needs.{needs}
 use Rattle.soundness_test.proofs.counts_sound.Statement.{statement}
 use Rattle.soundness_test.proofs.counts_sound.Tie as tie

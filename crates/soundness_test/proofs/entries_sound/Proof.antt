@@ -8,7 +8,7 @@ use Rattle.values.specs.Lists.{all}
 use Rattle.values.specs.Empty.{emptyEntry}
 use Rattle.values.proofs.Alls.{words-no, words-on, words-end}
 use Rattle.tlb.specs.Packing.{entryOf, entriesOf}
-use Rattle.soundness_test.specs.Soundness.{entrySound}
+use Rattle.soundness.specs.Soundness.{entrySound}
 use Rattle.tlb.proofs.Packing.{entry-zero}
 use Rattle.soundness_test.proofs.entries_sound.Statement.{statement}
 use Rattle.soundness_test.proofs.entries_sound.Tie as tie

@@ -1,6 +1,6 @@
 use native.Mathlib.Omega.{arith}
 use mathlib.Core.Path.{sym, _∙_}
-use Rattle.soundness_test.proofs.Clauses.{entry-odd, entry-even}
+use Rattle.soundness.proofs.Clauses.{entry-odd, entry-even}
 use borrow.Author.Needs.{needs}
 use Rattle.soundness_test.proofs.entry_sound.Statement.{statement}
 use Rattle.soundness_test.proofs.entry_sound.Tie as tie

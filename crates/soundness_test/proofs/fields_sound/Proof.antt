@@ -1,6 +1,6 @@
 use native.Mathlib.Omega.{arith}
 use mathlib.Core.Path.{sym, _∙_}
-use Rattle.soundness_test.proofs.Clauses.{size-high, range-domain, range-physical, range-virtual}
+use Rattle.soundness.proofs.Clauses.{size-high, range-domain, range-physical, range-virtual}
 use borrow.Author.Needs.{needs}
 use Rattle.soundness_test.proofs.fields_sound.Statement.{statement}
 use Rattle.soundness_test.proofs.fields_sound.Tie as tie

@@ -1,6 +1,6 @@
 use native.Mathlib.Omega.{arith}
 use mathlib.Core.Path.{sym, _∙_}
-use Rattle.soundness_test.proofs.Slots.{control-no, listed-no, base-no, fsr-test}
+use Rattle.soundness.proofs.Slots.{control-no, listed-no, base-no, fsr-test}
 use borrow.Author.Needs.{needs}
 use Rattle.soundness_test.proofs.registers_sound.Statement.{statement}
 use Rattle.soundness_test.proofs.registers_sound.Tie as tie

@@ -7,8 +7,8 @@ use denote.Ref.{now}
 use Rattle.values.specs.Lists.{all}
 use Rattle.buffer.specs.Packing.{slotsOf}
 use Rattle.cache.specs.Packing.{linesOf}
-use Rattle.soundness_test.specs.Soundness.{lineSound, bufferSound, sound}
-use Rattle.soundness_test.proofs.Clauses.{pair, pair-under}
+use Rattle.soundness.specs.Soundness.{lineSound, bufferSound, sound}
+use Rattle.soundness.proofs.Clauses.{pair, pair-under}
 use borrow.Author.Needs.{needs}
 use Rattle.soundness_test.proofs.sound.Statement.{statement}
 use Rattle.soundness_test.proofs.sound.Tie as tie

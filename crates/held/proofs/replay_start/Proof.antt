@@ -1,0 +1,18 @@
+use borrow.Author.Needs.{needs}
+use denote.Ref.{now}
+use Rattle.sa110.specs.State.{startedOf}
+use Rattle.held.proofs.Keeping.{start-is}
+use borrow.Author.Needs.{needs}
+use Rattle.held.proofs.replay_start.Statement.{statement}
+use Rattle.held.proofs.replay_start.Tie as tie
+
+start-requires : tie.Need-start-requires
+start-requires c κs = search needs
+
+returns : tie.Need-returns
+returns c = let a = c .before .before .before .before .before .args in
+    let s = c .before .before .start in
+    start-is (now (a .memory)) (now (a .store)) (startedOf (now (a .memory)) (now (a .store)) (s .result)) (s .ensures)
+
+pub replay-start-spec : {M : Type 1} → statement M
+replay-start-spec = tie.close (tie.spec start-requires returns)

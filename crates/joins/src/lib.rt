@@ -1,0 +1,124 @@
+// Stores into the write buffer: they join the newest entry of their block, or take a new one.
+ghost use mathlib.Core.Path.{_≡_};
+ghost use mathlib.Core.Bool.{true};
+ghost use mathlib.Core.List.{List, []};
+ghost use Prim.Native.Nat.{ℕ, _+_, _<_, _≤_};
+ghost use lib.Bits.{bitOr};
+ghost use lib.ListN.{length, getD, set};
+ghost use Rattle.words.specs.Words.{isWidth, stored};
+ghost use Rattle.buffer.specs.Buffer as spec;
+ghost use Rattle.buffer.specs.Packing.{slotsOf, backingOf};
+ghost use Rattle.buffer.specs.Ranges.{Fits, Left, Stores};
+use values::PhysicalAddress;
+use values::Search;
+
+// The newest of the first `used` entries that has the block.
+fn newest(words: &[u64], used: usize, block: u32) -> Search
+    requires { ⌜ (length (now words) ≡ 8) × (used ≤ 8) ⌝ }
+    ensures { λ r. ⌜ ((bytes : List (List ℕ)) → length bytes ≡ 8 → r ≡ spec.newestOf (slotsOf (now (words .entry)) bytes) block used) ⌝ }
+{
+    let mut n = used;
+    let found = loop {
+        if n == 0 {
+            break Search::Nothing;
+        }
+        if words[n - 1] / 0x100000000 == block as u64 {
+            break Search::At(n - 1);
+        }
+        n -= 1;
+    };
+    found
+}
+
+// An entry's bytes with those of a store in them.
+fn with_store(entry: [u8; 16], offset: usize, width: u32, value: u32) -> [u8; 16]
+    requires { ⌜ (isWidth width ≡ true) × (offset + width ≤ 16) ⌝ }
+    ensures { λ r. ⌜ r ≡ stored width entry offset value ⌝ }
+{
+    let mut e = entry;
+    words::store(&mut e, offset, width, value);
+    e
+}
+
+// The bytes of the entries, with a store's bytes in entry i.
+fn merge(bytes: [[u8; 16]; 8], i: usize, offset: usize, width: u32, value: u32) -> [[u8; 16]; 8]
+    requires { ⌜ (i < 8) × (isWidth width ≡ true) × (offset + width ≤ 16) ⌝ }
+    ensures { λ r. ⌜ r ≡ set bytes i (stored width (getD bytes i []) offset value) ⌝ }
+{
+    let mut out = bytes;
+    let entry = out[i];
+    out[i] = with_store(entry, offset, width, value);
+    out
+}
+
+// The mask of the bytes of an access, by its place in its block.
+fn mask_of(width: u32, offset: u32) -> u64
+    requires { ⌜ (isWidth width ≡ true) × (offset + width ≤ 16) ⌝ }
+    ensures { λ r. ⌜ (r ≡ spec.maskOf width offset) × (r < 0x10000) ⌝ }
+{
+    if width == 4 {
+        return 15 << offset;
+    }
+    if width == 2 {
+        return 3 << offset;
+    }
+    1 << offset
+}
+
+// A store's mask and bytes go into entry i.
+fn join(
+    words: &mut [u64],
+    bytes: &mut [[u8; 16]; 8],
+    i: usize,
+    mask: u64,
+    offset: usize,
+    width: u32,
+    value: u32,
+)
+    requires { ⌜ (length (now words) ≡ 8) × (i < 8) × (isWidth width ≡ true) × (offset + width ≤ 16) ⌝ }
+    ensures { λ r.
+        ⌜ (now (words .exit) ≡ set (now (words .entry)) i (bitOr (getD (now (words .entry)) i 0) mask))
+        × (now (bytes .exit) ≡ set (now (bytes .entry)) i (stored width (getD (now (bytes .entry)) i []) offset value)) ⌝ }
+{
+    words[i] = words[i] | mask;
+    let b = *bytes;
+    *bytes = merge(b, i, offset, width, value);
+}
+
+// A store of bytes inside memory joins the newest entry of its block, or takes a new one. It answers the number of entries.
+pub fn store(
+    memory: &mut [u8],
+    words: &mut [u64],
+    bytes: &mut [[u8; 16]; 8],
+    used: usize,
+    pa: PhysicalAddress,
+    width: u32,
+    value: u32,
+) -> usize
+    requires { ⌜ Fits (now memory) (now words) (now bytes) used × Stores (now memory) pa width ⌝ }
+    ensures { λ r.
+        ⌜ Left (now (memory .exit)) (now (words .exit)) (now (bytes .exit)) r
+        (spec.buffered (backingOf (now (memory .entry)) (now (words .entry)) (now (bytes .entry)) used) pa width value) ⌝ }
+{
+    let block = pa.0 / 16;
+    let offset = pa.0 % 16;
+    let mask = mask_of(width, offset);
+    let found = newest(words, used, block);
+    match found {
+        Search::At(i) => {
+            join(words, bytes, i, mask, offset as usize, width, value);
+            used
+        },
+        Search::Nothing => {
+            let fresh = with_store([0u8; 16], offset as usize, width, value);
+            buffer::push(
+                memory,
+                words,
+                bytes,
+                used,
+                (block as u64) * 0x100000000 + mask,
+                fresh,
+            )
+        },
+    }
+}

@@ -1,0 +1,1 @@
+// Refusal 3, "The state is unsound", stands in specs/, and laws of its clauses in proofs/.
