@@ -11,7 +11,7 @@ use Rattle.loads.specs.Loads.{load}
 use Rattle.stores.specs.Stores.{store}
 use Rattle.swaps.specs.Swaps.{swap}
 
--- "Kinds: load, signed load, store", and the swap: an access whose alignment, translation and rights pass
+-- "Kinds: load, signed load, store", and document 02's swap: an access whose alignment, translation and rights pass
 abbrev pub passed : Machine → Access → Place → Kind → Stepped
 passed m a p Load = load m a p
 passed m a p SignedLoad = load m a p

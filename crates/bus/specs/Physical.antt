@@ -18,6 +18,6 @@ physical bytes = record { bytes = bytes }
 abbrev pub outside : Physical → PhysicalAddress → Bool
 outside m pa = ltb (length (m .bytes)) (wordOf pa * 4 + 4)
 
--- the word of an address aborts. "outside memory" is said of walks, loads, fills and stores on both machines; no access crosses a word.
+-- the word of an address aborts. "outside memory" is said of walks, loads, fills, stores and swaps on both machines; no access crosses a word.
 unfoldable pub aborts : Physical → PhysicalAddress → Bool
 aborts m pa = outside m pa

@@ -14,7 +14,7 @@ use values::VirtualAddress;
 // How many calls there are.
 const COUNT: usize = 17;
 
-// The calls, five numbers each: the call (0 load, 1 signed load, 2 store, 3 CP15 read, 4 CP15 write), privileged, the width or the register,
+// The calls, five numbers each: the call (0 load, 1 signed load, 2 store, 3 CP15 read, 4 CP15 write, 5 swap), privileged, the width or the register,
 // the address (for registers 7 and 8 the operation), the value.
 const CALLS: [u32; 85] = [
     3,

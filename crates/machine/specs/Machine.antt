@@ -62,9 +62,11 @@ module _ (m : Machine) where
   abbrev pub withCounts : Counts → Machine
   withCounts c = machineFrom (m .cp15) (m .entries) (m .side) c (m .size)
 
-  -- "drains the buffer"
-  abbrev pub drainedAll : Machine
-  drainedAll = withBacking (drained (m .side .backing))
+-- ---- the buffer drained
+
+-- "drains the buffer"
+abbrev pub drainedAll : Machine → Machine
+drainedAll m = withBacking m (drained (m .side .backing))
 
 -- ---- the start
 

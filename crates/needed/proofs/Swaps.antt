@@ -19,6 +19,8 @@ swap-witness =
       written = refl;
       one-hit = refl;
       memory-kept = refl;
+      not-drained = refl;
+      still-waiting = refl;
       halves = refl;
       at-end = refl;
     }
@@ -27,16 +29,23 @@ pub swaps-needed : SwapsNeeded
 unfolding computing computingPlainly computingPositions
 swaps-needed =
     record {
-      reaches = record { run = run-under refl refl refl refl; broken = refl; library-last = refl; plain-last = refl; differ = answers-differ refl };
-      stores-line = record { run = run-under refl refl refl refl; broken = refl; library-last = refl; plain-last = refl; differ = answers-differ refl };
-      stores-word = record { run = run-under refl refl refl refl; broken = refl; library-last = refl; plain-last = refl; differ = answers-differ refl };
-      stores-at-end = record {
-        run = run-under refl refl refl refl;
-        settled-but = refl;
-        broken = refl;
-        same-answers = refl;
-        library-has = refl;
-        plain-has = refl;
-        differ = bytes-differ refl;
-      };
+      reaches =
+          (record { run = run-under refl refl refl refl; broken = refl; library-last = refl; plain-last = refl; differ = answers-differ refl }, refl, refl);
+      stores-line =
+          (record { run = run-under refl refl refl refl; broken = refl; library-last = refl; plain-last = refl; differ = answers-differ refl }, refl, refl);
+      stores-word =
+          (record { run = run-under refl refl refl refl; broken = refl; library-last = refl; plain-last = refl; differ = answers-differ refl }, refl, refl);
+      stores-at-end = (
+        record {
+          run = run-under refl refl refl refl;
+          settled-but = refl;
+          broken = refl;
+          same-answers = refl;
+          library-has = refl;
+          plain-has = refl;
+          differ = bytes-differ refl;
+        },
+        refl,
+        refl,
+      );
     }

@@ -3,6 +3,7 @@ use Prim.Native.Nat.{ℕ, _-_}
 use mathlib.Core.Bool.{true}
 use mathlib.Core.List.{List, [], _∷_}
 use lib.ListN.{length, getD, replicate}
+use Rattle.values.specs.declared.Kind.the-variants.{Swap}
 use Rattle.values.specs.declared.Call.{Call}
 use Rattle.values.specs.declared.Call.the-variants.{Write}
 use Rattle.values.specs.declared.Answer.{Answer}
@@ -11,12 +12,19 @@ use Rattle.marked.specs.MarkedCases as marked
 
 -- ---- calls
 
--- a load, and a store, of a word
+-- a swap of a width
+abbrev pub swapOf : ℕ → ℕ → ℕ → Call
+swapOf width a v = marked.access true (Swap v) width a
+
+-- a load, a store, and a swap, of a word
 abbrev pub load : ℕ → Call
 load a = marked.load 4 a
 
 abbrev pub store : ℕ → ℕ → Call
 store a v = marked.store 4 a v
+
+abbrev pub swap : ℕ → ℕ → Call
+swap a v = swapOf 4 a v
 
 -- a write of register n with this opcode 2 and CRm
 abbrev pub operate : ℕ → ℕ → ℕ → ℕ → Call

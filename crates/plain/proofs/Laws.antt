@@ -46,7 +46,7 @@ use Rattle.plain.specs.Plain.{Plain, PlainStepped, plainStepped, plainPh
 use Rattle.plain.specs.Plain.{plainPassed, plainAt, plainAccess, plainWrite, plainDone, plainBy, plainly, plainRefusal, counted}
 use Rattle.plain.specs.Code.{Kept, Steps, Inside}
 
--- ---- loads and stores that pass
+-- ---- loads, stores and swaps that pass
 
 module _ (p : Plain) (a : Access) (l : Place) where
   pub load-in : aborts (plainPhysical p) (l .address) ≡ false

@@ -1,8 +1,8 @@
 -- The first row met, by cases, and what a call that is not refused meets.
 use Prim.Native.Nat.{ℕ, _<_}
 use native.Mathlib.Omega.{arith}
-use mathlib.Core.Bool.{true, false, not}
-use mathlib.Core.Path.{_≡_, refl}
+use mathlib.Core.Bool.{Bool, true, false, cond, not}
+use mathlib.Core.Path.{_≡_, refl, sym, _∙_, ap}
 use mathlib.Core.List.{List, [], _∷_, _++_}
 use lib.Dec.{eqb, ltb}
 use borrow.Author.Tests.{ltb-true, not-false}
@@ -94,11 +94,19 @@ other-width (Store v) w h e = h
 other-width (Swap v) w h e = rw (h, e)
 
 -- the value of an access that stores
-pub value-fits : (k : Kind) (w : ℕ) → isStore k ≡ true → valueFits w k ≡ fitsWidth w (storedValue k)
+value-fits : (k : Kind) (w : ℕ) → isStore k ≡ true → valueFits w k ≡ fitsWidth w (storedValue k)
 value-fits Load w h = clash {b = false} h refl
 value-fits SignedLoad w h = clash {b = false} h refl
 value-fits (Store v) w h = refl
 value-fits (Swap v) w h = refl
+
+-- an access that stores, and has a width of its kind, is refused by its value alone
+pub store-refused : (k : Kind) (w v : ℕ) (fits : Bool) → widthFits w k ≡ true → isStore k ≡ true → v ≡ storedValue k → fits ≡ fitsWidth w v
+    → refusalIn (refuses 6 (not (widthFits w k)) ∷ refuses 7 (not (valueFits w k)) ∷ []) ≡ cond fits 0 7
+unfolding firstMet
+store-refused k w v fits e s q f =
+    let g : valueFits w k ≡ fits = value-fits k w s ∙ ap (fitsWidth w) (sym q) ∙ sym f in
+    case fits (λ t. rw (e, g, t)) (λ t. rw (e, g, t))
 
 -- an access that does not store is refused by its width alone
 pub no-store-refused : (k : Kind) (w : ℕ) → isWidth w ≡ true → isStore k ≡ false

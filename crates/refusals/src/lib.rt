@@ -34,7 +34,7 @@ pub fn lent_refusal(memory: usize, store: usize) -> u32
     1
 }
 
-// Refusals 6 and 7 of an access that stores, by a width of 1, 2 or 4, or 0: a swap has no width of 2.
+// Refusal 6 or 7 of an access that stores, with a width of 1, 2 or 4; 0 where neither is met. A swap has no width of 2.
 fn store_refusal(width: u32, k: Kind) -> u32
     requires { ⌜ (isWidth width ≡ true) × (isStore k ≡ true) ⌝ }
     ensures { λ r. ⌜ r ≡ refusalIn (spec.refuses 6 (not (spec.widthFits width k)) ∷ spec.refuses 7 (not (spec.valueFits width k)) ∷ []) ⌝ }
@@ -44,7 +44,11 @@ fn store_refusal(width: u32, k: Kind) -> u32
             return 6;
         }
     }
-    if words::fits_width(width, values::stored_value(k)) { 0 } else { 7 }
+    if words::fits_width(width, values::stored_value(k)) {
+        0
+    } else {
+        7
+    }
 }
 
 // Refusals 6 and 7 of an access, or 0.

@@ -71,7 +71,7 @@ ThirteenLast = (m : Machine) (lines : List Line) → ThirteenOnce m lines
 
 -- ---- stores and writes
 
--- a store or a CP15 write
+-- a store or a CP15 write; a swap, of which no text has one, answers the old value
 abbrev pub storesOrWrites : Call → Bool
 storesOrWrites (calls.Access a) = isStore (a .kind) && not (isSwap (a .kind))
 storesOrWrites (Read t) = false

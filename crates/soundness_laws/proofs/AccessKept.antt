@@ -235,7 +235,7 @@ module _ (n start : ℕ) (a : Access) (width : isWidth (a .width) ≡ true) (low
         unfolding store
         store-done = store-found-done (find (linesOf m) (cleared a)) refl
 
-      -- ---- swaps: what a store leaves, or a fault
+        -- ---- swaps: what a store that hits, or one that goes to memory, leaves; or a fault
 
         swap-miss-done : Done n start (swapMiss m a v p .machine)
         unfolding swapMiss swapDirect

@@ -20,7 +20,8 @@ use Rattle.stores.specs.Stores.{storeHit, storeDirect}
 unfoldable pub swapHit : Machine → Access → ℕ → ℕ → Stepped
 swapHit m a v i = steppedFrom (storeHit m a v i .machine) (loadHit m a i .answer)
 
--- "Otherwise the buffer is drained and memory is read, then written, without filling a line.": the store drains, then writes. "It answers the old value"
+-- "Otherwise the buffer is drained and memory is read, then written, without filling a line.": the store drains, then writes; what is answered, "the old
+-- value", is read of memory once drained, before the write
 unfoldable pub swapDirect : Machine → Access → ℕ → Place → Stepped
 swapDirect m a v p =
     steppedFrom (storeDirect m a v p .machine)

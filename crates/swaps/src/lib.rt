@@ -19,14 +19,7 @@ use values::Access;
 use values::Search;
 
 // A swap in line i.
-fn swap_hit(
-    lines: &mut [u64],
-    store: &mut [u8],
-    s: Scalars,
-    a: Access,
-    v: u32,
-    i: usize,
-) -> Outcome
+fn swap_hit(lines: &mut [u64], store: &mut [u8], s: Scalars, a: Access, v: u32, i: usize) -> Outcome
     requires { ⌜ (length (now lines) ≡ 512) × (length (now store) ≡ 16384) × (i < 512) × (isWidth (a .width) ≡ true)
         × (s .counts .hits < countLimit) ⌝ }
     ensures { λ r.

@@ -1,4 +1,4 @@
--- What a load and a store that pass share: the words that abort, the line that is hit, and faults.
+-- What loads, stores and swaps that pass share: the words that abort, the line that is hit, and faults.
 use Prim.Native.Nat.{ℕ, _/_, _%_, _<_}
 use native.Mathlib.Omega.{arith}
 use mathlib.Core.Bool.{true, false}

@@ -1,4 +1,4 @@
--- A swap that passes: a hit, memory behind a drain, or a fault. What it leaves is what the store leaves.
+-- A swap that passes: a hit, memory behind a drain, or a fault. It leaves what a store that hits, or one that goes to memory, leaves.
 use Prim.Native.Nat.{ℕ, _+_}
 use native.Mathlib.Omega.{arith}
 use mathlib.Core.Bool.{false}

@@ -103,12 +103,12 @@ withStore h va pa =
       baseStale = h .baseStale;
     }
 
--- a store, "dropped ones left out"
+-- a store or a swap, "dropped ones left out", and those that fault
 unfoldable pub afterStore : History → Physical → VirtualAddress → Checked → History
 afterStore h memory va (Denied s d) = h
 afterStore h memory va (Passed l) = cond (aborts memory (l .address)) h (withStore h va (l .address))
 
--- what an access of a kind stores
+-- what an access of a kind stores; a swap as a store
 abbrev pub afterKind : Kind → History → Physical → VirtualAddress → Checked → History
 afterKind Load h memory va c = h
 afterKind SignedLoad h memory va c = h

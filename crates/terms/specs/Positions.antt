@@ -112,6 +112,7 @@ module _ (memory : List ℕ) (list : List Call) where
   abbrev pub wordAt : ℕ → ℕ
   wordAt j = wordOf (addressAt j)
 
+  -- a store or a swap whose word does not abort: one that is dropped or faults is none
   unfoldable pub stores : ℕ → Bool
   stores j = reaches j && (ofAccess false (λ a. isStore (a .kind)) (call j) && not (aborts (plainPhysical (before j)) (addressAt j)))
 

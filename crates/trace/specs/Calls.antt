@@ -1,5 +1,5 @@
--- A list of calls as numbers, five a call: the call (0 load, 1 signed load, 2 store, 3 CP15 read, 4 CP15 write; 5 swap, of document 02, Two),
--- privileged (1 or 0), the width or the register number, the address or opcode 2 × 16 + CRm, the value.
+-- A list of calls as numbers, five a call: the call (0 load, 1 signed load, 2 store, 3 CP15 read, 4 CP15 write, and 5, the swap of document 02, Two, to
+-- which the library gives this number), privileged (1 or 0), the width or the register number, the address or opcode 2 × 16 + CRm, the value.
 use Prim.Native.Nat.{ℕ, _+_, _*_, _/_, _%_}
 use mathlib.Core.Bool.{Bool, cond, _&&_}
 use mathlib.Core.List.{List}
@@ -21,7 +21,7 @@ abbrev pub transferOf : ℕ → ℕ → ℕ → Transfer
 transferOf privileged register pair =
     record { privileged = eqb privileged 1; register = register; opcode = pair / 16; crm = pair % 16 }
 
--- the call of five numbers
+-- the call of five numbers, where they are one
 unfoldable pub callOf : ℕ → ℕ → ℕ → ℕ → ℕ → Call
 callOf kind privileged n a v =
     cond (eqb kind 0) (calls.Access (accessOf Load privileged n a))

@@ -1,4 +1,4 @@
--- "Kinds: load, signed load, store"; document 02, Two: "One new call swaps a byte or a word".
+-- "Kinds: load, signed load, store", and the swap of document 02, Two.
 use Prim.Native.Nat.{ℕ}
 use mathlib.Core.Bool.{Bool, true, false}
 use Rattle.values.specs.declared.Kind.{Kind}
@@ -18,6 +18,7 @@ storedValue SignedLoad = 0
 storedValue (Store v) = v
 storedValue (Swap v) = v
 
+-- "One new call swaps a byte or a word"
 abbrev pub isSwap : Kind → Bool
 isSwap Load = false
 isSwap SignedLoad = false

@@ -1,11 +1,9 @@
 use Rattle.values.specs.Rows.{firstMet}
-use mathlib.Core.Path.{_≡_, sym, _∙_, ap}
-use mathlib.Core.Bool.{true, false}
-use borrow.Author.Tests.{ne-eqb}
-use Rattle.words.specs.Words.{fitsWidth}
+use mathlib.Core.Path.{sym, _∙_, ap}
+use mathlib.Core.Bool.{Bool, cond}
 use mathlib.Core.Logic.{⊎-elim}
-use Rattle.refusals.specs.Refusals.{widthFits, valueFits}
-use Rattle.refusals.proofs.Rows.{swap-half, store-width, other-width, value-fits}
+use borrow.Author.Tests.{ne-eqb}
+use Rattle.refusals.proofs.Rows.{swap-half, store-width, other-width, store-refused}
 use borrow.Author.Needs.{needs}
 use Rattle.refusals.proofs.store_refusal.Statement.{statement}
 use Rattle.refusals.proofs.store_refusal.Tie as tie
@@ -26,36 +24,30 @@ fits-width-requires : tie.Need-fits-width-requires
 fits-width-requires c κs = search needs
 
 returns-2 : tie.Need-returns-2
-unfolding firstMet
 returns-2 c = let fit = c .before in
     let value = fit .before in
     let joined = value .before in
     let start = joined .before in
     let a = start .args in
-    let e : widthFits (a .width) (a .k) ≡ true =
+    let e =
     ⊎-elim (λ w. store-width (a .k) (a .width) (start .pre .0) (sym (w .1 .ensures) ∙ w .2 .left))
     (λ w. other-width (a .k) (a .width) (start .pre .0) (ne-eqb _ _ (w .left))) (joined .if1 .came)
     in
-    let f : valueFits (a .width) (a .k) ≡ true =
-    value-fits (a .k) (a .width) (start .pre .1) ∙ ap (fitsWidth (a .width)) (sym (value .stored-value .ensures)) ∙ sym (fit .fits-width .ensures) ∙ c .if3 .taken
-    in
-    rw (e, f)
+    sym (store-refused (a .k) (a .width) _ _ e (start .pre .1) (value .stored-value .ensures) (fit .fits-width .ensures)
+    ∙ ap (λ (b : Bool). cond b 0 7) (c .if3 .taken))
 
 returns-3 : tie.Need-returns-3
-unfolding firstMet
 returns-3 c = let fit = c .before in
     let value = fit .before in
     let joined = value .before in
     let start = joined .before in
     let a = start .args in
-    let e : widthFits (a .width) (a .k) ≡ true =
+    let e =
     ⊎-elim (λ w. store-width (a .k) (a .width) (start .pre .0) (sym (w .1 .ensures) ∙ w .2 .left))
     (λ w. other-width (a .k) (a .width) (start .pre .0) (ne-eqb _ _ (w .left))) (joined .if1 .came)
     in
-    let f : valueFits (a .width) (a .k) ≡ false =
-    value-fits (a .k) (a .width) (start .pre .1) ∙ ap (fitsWidth (a .width)) (sym (value .stored-value .ensures)) ∙ sym (fit .fits-width .ensures) ∙ c .if3 .left
-    in
-    rw (e, f)
+    sym (store-refused (a .k) (a .width) _ _ e (start .pre .1) (value .stored-value .ensures) (fit .fits-width .ensures)
+    ∙ ap (λ (b : Bool). cond b 0 7) (c .if3 .left))
 
 pub store-refusal-spec : {M : Type 1} → statement M
 store-refusal-spec =
