@@ -19,7 +19,7 @@ swap-witness =
       written = refl;
       one-hit = refl;
       memory-kept = refl;
-      not-drained = refl;
+      waiting-again = refl;
       still-waiting = refl;
       halves = refl;
       at-end = refl;
@@ -30,11 +30,11 @@ unfolding computing computingPlainly computingPositions
 swaps-needed =
     record {
       reaches =
-          (record { run = run-under refl refl refl refl; broken = refl; library-last = refl; plain-last = refl; differ = answers-differ refl }, refl, refl);
+          (record { run = run-under refl refl refl refl; broken = refl; library-last = refl; plain-last = refl; differ = answers-differ refl }, (refl, refl));
       stores-line =
-          (record { run = run-under refl refl refl refl; broken = refl; library-last = refl; plain-last = refl; differ = answers-differ refl }, refl, refl);
+          (record { run = run-under refl refl refl refl; broken = refl; library-last = refl; plain-last = refl; differ = answers-differ refl }, (refl, refl));
       stores-word =
-          (record { run = run-under refl refl refl refl; broken = refl; library-last = refl; plain-last = refl; differ = answers-differ refl }, refl, refl);
+          (record { run = run-under refl refl refl refl; broken = refl; library-last = refl; plain-last = refl; differ = answers-differ refl }, (refl, refl));
       stores-at-end = (
         record {
           run = run-under refl refl refl refl;

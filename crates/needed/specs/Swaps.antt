@@ -59,7 +59,7 @@ pub record SwapWitness : Type 0 where
   pub one-hit : after 7 .counts .hits ≡ 1
   pub memory-kept : bytesOf (after 7) ≡ 5 ∷ 0 ∷ 0 ∷ 0 ∷ 4 ∷ 0 ∷ 0 ∷ 0 ∷ []
   -- "an aborted read, found before the drain": the store to 8 is in the buffer before and after
-  pub not-drained : after 9 .side .backing ≡ after 10 .side .backing
+  pub waiting-again : after 9 .side .backing .buffer .used ≡ 1
   pub still-waiting : after 10 .side .backing .buffer .used ≡ 1
   -- the half that the swap wrote is dirty: the clean sends it out
   pub halves : library memory zeroStore calls .counts .halves ≡ 1
