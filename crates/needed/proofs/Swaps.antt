@@ -45,7 +45,6 @@ swaps-needed =
           plain-has = refl;
           differ = bytes-differ refl;
         },
-        refl,
-        refl,
+        (refl, refl),
       );
     }
