@@ -21,7 +21,9 @@ use Rattle.fields.proofs.Means.{fieldsTest, means}
 -- a line that ends, has five fields, is short and is a call
 line-is : (l : Line) → isLine l ≡ (fieldsTest 5 l && (leb (length (l .bytes) + 1) 64 && isTextCallAt (numbersIn l) 0))
 unfolding isLine
-line-is l = by (l .ended) (leb (length (l .bytes) + 1) 64) (eqb (length (fieldsOf (l .bytes))) 5) (all isField (fieldsOf (l .bytes))) (isTextCallAt (numbersIn l) 0)
+line-is l =
+    by (l .ended) (leb (length (l .bytes) + 1) 64) (eqb (length (fieldsOf (l .bytes))) 5) (all isField (fieldsOf (l .bytes)))
+    (isTextCallAt (numbersIn l) 0)
   where
     by : (a b c d e : Bool) → (a && (b && (c && (d && e)))) ≡ (a && (c && d) && (b && e))
     by true true c d e = sym (and-assoc c d e)

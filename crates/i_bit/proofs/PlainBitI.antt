@@ -27,9 +27,9 @@ use Rattle.translation.specs.declared.Checked.the-variants.{Passed, Denied}
 use Rattle.registers.specs.Registers.{writtenOf}
 use Rattle.trace.specs.Fold.{answersOf, finalOf}
 use Rattle.soundness_laws.proofs.RegistersKept.{kept-twice}
-use Rattle.plain.specs.Plain.{Plain, withRegisters, PlainStepped, plainStepped, plainFaulted, plainPhysical, plainReach, plainLoad, plainStore, plainSwap, plainPassed}
-use Rattle.plain.specs.Plain.{plainAt, plainAccess, plainRead, plainWrite, plainDone, plainRefusal, counted, plainly, plainNext, plainAnswered}
-use Rattle.plain.specs.Plain.{plainAnswers, plainFinal}
+use Rattle.plain.specs.Plain.{Plain, withRegisters, PlainStepped, plainStepped, plainFaulted, plainPhysical, plainReach, plainLoad, plainStore}
+use Rattle.plain.specs.Plain.{plainPassed, plainAt, plainAccess, plainRead, plainWrite, plainDone, plainRefusal, counted, plainly, plainNext, plainAnswered}
+use Rattle.plain.specs.Plain.{plainSwap, plainAnswers, plainFinal}
 use Rattle.i_bit.specs.BitI.{numberWithoutI, registersWithoutI, answerWithoutI, answersWithoutI, AlikeAnswers, AllAlike}
 use Rattle.i_bit.specs.PlainBitI.{plainWithoutI, OnlyKept, AlikePlains, PlainBitI}
 use Rattle.i_bit.proofs.ControlBits.{without-twice, bit-without, listed-without, kept-alike}

@@ -37,7 +37,8 @@ unfolding kept listed controlRead all any sum firstFrom stored valueAt signedBy 
     cache.filled cache.cleanedAt cache.cleaned cache.flushedAt cache.lineFlushed cache.allFlushed fresh sound tagsSound tagTwice entrySound lineSound
     slotSound bufferSound registersSound countsSound zeroOutside cleared translation walkedOnly checkedBy faultSet decided aborts firstMet
     reach.decision reach.committed reach.faulted loads.loadHit loads.loadFill loads.loadUncached loads.loadMiss loads.load stores.storeHit
-    stores.storeBuffered stores.storeDirect stores.storeMiss stores.store swaps.swapHit swaps.swapDirect swaps.swapMiss swaps.swap access.accessAt access.access readOf writtenOf cp15.operated cp15.read
+    stores.storeBuffered stores.storeDirect stores.storeMiss stores.store swaps.swapHit swaps.swapDirect swaps.swapMiss swaps.swap
+    access.accessAt access.access readOf writtenOf cp15.operated cp15.read
     cp15.write refusal stateRefusal startRefusal started served answersOf finalOf
 computing = tt
 

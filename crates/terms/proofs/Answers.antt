@@ -66,7 +66,8 @@ Answers s (Write t v) x = x .answer ≡ answer.Value 0
 -- ---- what holds of every fault, and of whatever answers a value, holds of every accepted call
 
 module _ (P : Stepped → Type 0) where
-  module _ (m : Machine) (a : Access) (value : (x : Stepped) → Accessed (m .side) a x → P x) (fault : (s : Status) (d : ℕ) → P (faulted m s d (a .address))) where
+  module _ (m : Machine) (a : Access) (value : (x : Stepped) → Accessed (m .side) a x → P x)
+      (fault : (s : Status) (d : ℕ) → P (faulted m s d (a .address))) where
     module _ (p : Place) where
       load-miss-by : P (loadMiss m a p)
       unfolding loadMiss loadFill loadUncached hitLoad
