@@ -74,7 +74,7 @@ line-stands l t =
       has-ended = and-left (l .ended) (short && (eqb (length fs) 5 && (all isField fs && call))) t;
       are-five = eqb-true (length fs) 5 (and-left (eqb (length fs) 5) (all isField fs && call) b);
       are-fields = and-left (all isField fs) call c;
-      is-call = and-right (leb (getD (numbersIn l) 0 0) 4) (isCallAt (numbersIn l) 0) (and-right (all isField fs) call c);
+      is-call = and-left (isCallAt (numbersIn l) 0) (leb (getD (numbersIn l) 0 0) 4) (and-right (all isField fs) call c);
     }
 
 -- it has five numbers

@@ -44,8 +44,8 @@ call-laid l vs k h e =
     ap (λ (n : ℕ). getD (sets l (k * 5) vs) n 0) (sym (add-zero (k * 5))) ∙ laid-at l vs (k * 5) 0 (omega arith) (omega arith)
     in
     let b : getD (sets l (k * 5) vs) (k * 5 + 1) 0 ≡ getD vs 1 0 = laid-at l vs (k * 5) 1 (omega arith) (omega arith) in
-    ap (λ (n : ℕ). leb n 4 && isCall n (getD (sets l (k * 5) vs) (k * 5 + 1) 0)) a
-    ∙ ap (λ (n : ℕ). leb (getD vs 0 0) 4 && isCall (getD vs 0 0) n) b
+    ap (λ (n : ℕ). isCall n (getD (sets l (k * 5) vs) (k * 5 + 1) 0) && leb n 4) a
+    ∙ ap (λ (n : ℕ). isCall (getD vs 0 0) n && leb (getD vs 0 0) 4) b
 
 module _ (text calls₀ : List ℕ) (from k : ℕ) (calls : List ℕ) (front : take (k * 5) calls ≡ take (k * 5) calls₀) where
   abbrev l : Line

@@ -59,7 +59,7 @@ numbersIn l = map valueOf (fieldsOf (l .bytes))
 
 -- call i of a list is one of a text: "call (0 load, 1 signed load, 2 store, 3 CP15 read, 4 CP15 write), privileged (1 or 0)"; no text has a swap
 abbrev pub isTextCallAt : List ℕ → ℕ → Bool
-isTextCallAt list i = leb (getD list (i * 5) 0) 4 && isCallAt list i
+isTextCallAt list i = isCallAt list i && leb (getD list (i * 5) 0) 4
 
 -- A line that does not depart: a line feed ends it, it "has at most 64 bytes with the line feed", it has five fields, and they are a call.
 unfoldable pub isLine : Line → Bool

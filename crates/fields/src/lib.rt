@@ -110,8 +110,8 @@ fn is_text_call_at(calls: &[u32], k: usize) -> bool
     requires { ⌜ k * 5 + 5 ≤ length (now calls) ⌝ }
     ensures { λ r. ⌜ r ≡ lines.isTextCallAt (now (calls .entry)) k ⌝ }
 {
-    if calls[k * 5] <= LAST_CALL {
-        return trace::is_call_at(calls, k);
+    if trace::is_call_at(calls, k) {
+        return calls[k * 5] <= LAST_CALL;
     }
     false
 }
