@@ -24,9 +24,6 @@ pub const TABLE_BASE_KEPT: u32 = 0xFFFF_C000;
 /// Register 5 keeps 8 bits.
 pub const FSR_KEPT: u32 = 0xFF;
 
-/// The place of each domain's pair of bits in register 3.
-pub const DOMAIN_PLACES: [u32; 16] = [0, 2, 4, 6, 8, 10, 12, 14, 16, 18, 20, 22, 24, 26, 28, 30];
-
 /// Is the combination of M, C and W in 000's table 8?
 pub fn control_listed(control: u32) -> bool {
     matches!(
@@ -40,10 +37,10 @@ impl PlainRegisters {
         self.control & bit != 0
     }
 
-    /// The domain's two-bit value.
+    /// The domain's two-bit value. The place of its pair is twice the domain number (document 02, Three).
     #[inline]
     pub fn domain_value(&self, domain: u32) -> u32 {
-        self.domain >> DOMAIN_PLACES[domain as usize] & 3
+        self.domain >> (2 * domain) & 3
     }
 
     /// The value of register 0 to 6.

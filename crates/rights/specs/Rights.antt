@@ -39,6 +39,6 @@ tabulated f i (suc n) = f i ∷ tabulated f (suc i) n
 unfoldable pub rightsTable : List ℕ
 rightsTable = tabulated rightsAt 0 256
 
--- "3 holds sixteen two-bit domain values": the value of domain d, whose pair begins at bit 2 d
+-- "3 holds sixteen two-bit domain values": the value of domain d. The place of its pair, by document 02, Three: "twice the domain number"
 abbrev pub domainValue : ℕ → ℕ → ℕ
 domainValue domains d = domains / 2 ^ (2 * d) % 4

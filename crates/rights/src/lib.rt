@@ -1,6 +1,6 @@
 // The rights of an access, out of a constant table, and the domain values of register 3.
 ghost use mathlib.Core.Path.{_≡_};
-ghost use Prim.Native.Nat.{_<_, _*_};
+ghost use Prim.Native.Nat.{_<_};
 ghost use Rattle.values.specs.Bits.{bit};
 ghost use Rattle.rights.specs.Rights.{rights, rightsAt, rightsTable, domainValue};
 
@@ -23,9 +23,6 @@ const RIGHTS: [u8; 256] = [
     0, 0, 0, 0, 0, 0, 0, 0, 0, 0, 0, 0, 0, 0, 0, 0, // domain value 3, AP 2
     0, 0, 0, 0, 0, 0, 0, 0, 0, 0, 0, 0, 0, 0, 0, 0, // domain value 3, AP 3
 ];
-
-// Where each domain's pair begins in register 3.
-const PLACES: [u32; 16] = [0, 2, 4, 6, 8, 10, 12, 14, 16, 18, 20, 22, 24, 26, 28, 30];
 
 // The table, to be lent to `right` for many accesses.
 pub fn table() -> [u8; 256]
@@ -62,15 +59,7 @@ pub fn right(
     table[i as usize]
 }
 
-// The place of a domain's pair.
-fn place(domain: u32) -> u32
-    requires { ⌜ domain < 16 ⌝ }
-    ensures { λ r. ⌜ r ≡ 2 * domain ⌝ }
-{
-    PLACES[domain as usize]
-}
-
-// The domain value of a domain. Its place is computed, as `place` says it is: a read of the table would copy the table for each access.
+// The domain value of a domain. Its pair's place in register 3 is twice the domain number.
 pub fn domain_value(domains: u32, domain: u32) -> u32
     requires { ⌜ domain < 16 ⌝ }
     ensures { λ r. ⌜ (r ≡ domainValue domains domain) × (r < 4) ⌝ }
