@@ -73,7 +73,7 @@ pub struct Field {
 }
 
 // The field at a place, with the byte `by` behind it.
-fn read_field(text: &[u8], from: usize, by: u8) -> Field
+pub fn read_field(text: &[u8], from: usize, by: u8) -> Field
     requires { ⌜ (from ≤ length (now text)) × (1 ≤ by) ⌝ }
     ensures { λ r. ⌜ (r ≡ code.fieldAt by (drop from (now (text .entry)))) × (from + r .size ≤ length (now (text .entry))) ⌝ }
 {

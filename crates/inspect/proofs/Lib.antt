@@ -1,1 +1,1 @@
-mod Borrows
+pub mod Borrows

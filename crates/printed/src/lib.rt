@@ -12,7 +12,7 @@ ghost use Rattle.printed.specs.Code as spec;
 pub const WIDEST: usize = 34;
 
 // How many decimal digits a number has.
-fn digits(n: u64) -> usize
+pub fn digits(n: u64) -> usize
     requires { ⌜ n < 10000000000000000000 ⌝ }
     ensures { λ r. ⌜ (r ≡ length (decimal n)) × (r ≤ 19) ⌝ }
 {
@@ -26,7 +26,7 @@ fn digits(n: u64) -> usize
 }
 
 // A number in decimal digits, laid from a place on; the place behind them.
-fn put_number(out: &mut [u8], at: usize, n: u64) -> usize
+pub fn put_number(out: &mut [u8], at: usize, n: u64) -> usize
     requires { ⌜ (n < 10000000000000000000) × (at + length (decimal n) ≤ length (now out)) ⌝ }
     ensures { λ r. ⌜ spec.Laid (now (out .entry)) (now (out .exit)) at r 19 (decimal n) ⌝ }
 {
@@ -43,7 +43,7 @@ fn put_number(out: &mut [u8], at: usize, n: u64) -> usize
 }
 
 // A byte laid at a place; the place behind it.
-fn put_byte(out: &mut [u8], at: usize, b: u8) -> usize
+pub fn put_byte(out: &mut [u8], at: usize, b: u8) -> usize
     requires { ⌜ at < length (now out) ⌝ }
     ensures { λ r. ⌜ spec.Laid (now (out .entry)) (now (out .exit)) at r 1 (b ∷ []) ⌝ }
 {

@@ -110,7 +110,7 @@ pub struct Started {
 }
 
 // A state of zeros but for the memory's length.
-fn fresh(size: usize) -> State
+pub fn fresh(size: usize) -> State
     ensures { λ r. ⌜ ((memory store : List ℕ) → machineIn memory store r zeroCp15 ≡ machines.fresh size memory store) ⌝ }
 {
     let counts = values::zero_counts();

@@ -92,7 +92,7 @@ chain-is (u ∷ us) l c =
       r .1 ∙ ap (λ (x : Machine). final x (callsOf us)) (e .0) ∙ sym (final-append next answered m (callsBy u) (callsOf us)),
     )
 
-chain-numbers : (us : List Use) (l : Lent) → Chain l us → AllNumbers (callsOf us)
+pub chain-numbers : (us : List Use) (l : Lent) → Chain l us → AllNumbers (callsOf us)
 unfolding Chain callsOf AllNumbers
 chain-numbers [] l c = tt
 chain-numbers (u ∷ us) l c = numbers-append (callsOf us) (callsBy u) (use-numbers u (c .0 .1)) (chain-numbers us (left u) (c .1))

@@ -6,6 +6,9 @@ use Rattle.values.specs.declared.Counts.{Counts}
 abbrev pub countLimit : ℕ
 countLimit = 0xFFFFFFFF
 
+abbrev pub countsFrom : ℕ → ℕ → ℕ → ℕ → ℕ → Counts
+countsFrom calls misses hits fills halves = record { calls = calls; misses = misses; hits = hits; fills = fills; halves = halves }
+
 -- "counts zero"
 abbrev pub zeroCounts : Counts
 zeroCounts = record { calls = 0; misses = 0; hits = 0; fills = 0; halves = 0 }
@@ -26,3 +29,20 @@ module _ (c : Counts) where
 
   abbrev pub sent : ℕ → Counts
   sent n = record { calls = c .calls; misses = c .misses; hits = c .hits; fills = c .fills; halves = c .halves + n }
+
+-- the counts with one of them replaced
+module _ (c : Counts) (n : ℕ) where
+  abbrev pub withCalls : Counts
+  withCalls = record { calls = n; misses = c .misses; hits = c .hits; fills = c .fills; halves = c .halves }
+
+  abbrev pub withMisses : Counts
+  withMisses = record { calls = c .calls; misses = n; hits = c .hits; fills = c .fills; halves = c .halves }
+
+  abbrev pub withHits : Counts
+  withHits = record { calls = c .calls; misses = c .misses; hits = n; fills = c .fills; halves = c .halves }
+
+  abbrev pub withFills : Counts
+  withFills = record { calls = c .calls; misses = c .misses; hits = c .hits; fills = n; halves = c .halves }
+
+  abbrev pub withHalves : Counts
+  withHalves = record { calls = c .calls; misses = c .misses; hits = c .hits; fills = c .fills; halves = n }

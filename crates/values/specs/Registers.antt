@@ -3,6 +3,9 @@ use Prim.Native.Nat.{ℕ}
 use Rattle.values.specs.declared.Registers.{Registers}
 use Rattle.values.specs.declared.Cp15.{Cp15}
 
+abbrev pub registersFrom : ℕ → ℕ → ℕ → ℕ → ℕ → Registers
+registersFrom control base domains fsr far = record { control = control; base = base; domains = domains; fsr = fsr; far = far }
+
 -- "registers zero"
 abbrev pub zeroRegisters : Registers
 zeroRegisters = record { control = 0; base = 0; domains = 0; fsr = 0; far = 0 }

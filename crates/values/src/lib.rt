@@ -5,8 +5,8 @@ ghost use Rattle.values.specs.Bits.{number};
 ghost use Rattle.values.specs.Answers.{statusOf};
 ghost use Rattle.values.specs.Control as spec;
 ghost use Rattle.values.specs.Kinds.{isStore, storedValue, isSwap};
-ghost use Rattle.values.specs.Registers.{zeroRegisters, zeroCp15};
-ghost use Rattle.values.specs.Counts.{zeroCounts};
+ghost use Rattle.values.specs.Registers.{registersFrom, zeroRegisters, cp15From, zeroCp15};
+ghost use Rattle.values.specs.Counts.{countsFrom, zeroCounts};
 
 // A virtual address, 32 bits.
 pub struct VirtualAddress(pub u32);
@@ -240,6 +240,39 @@ pub fn zero_counts() -> Counts
         hits: 0,
         fills: 0,
         halves: 0,
+    }
+}
+
+// Registers of these numbers.
+pub fn registers_of(control: u32, base: u32, domains: u32, fsr: u32, far: u32) -> Registers
+    ensures { λ r. ⌜ r ≡ registersFrom control base domains fsr far ⌝ }
+{
+    Registers {
+        control,
+        base,
+        domains,
+        fsr,
+        far,
+    }
+}
+
+// A record of registers and the TLB pointer.
+pub fn cp15_of(registers: Registers, pointer: u32) -> Cp15
+    ensures { λ r. ⌜ r ≡ cp15From registers pointer ⌝ }
+{
+    Cp15 { registers, pointer }
+}
+
+// Counts of these numbers.
+pub fn counts_of(calls: Count, misses: Count, hits: Count, fills: Count, halves: Count) -> Counts
+    ensures { λ r. ⌜ r ≡ countsFrom calls misses hits fills halves ⌝ }
+{
+    Counts {
+        calls,
+        misses,
+        hits,
+        fills,
+        halves,
     }
 }
 
