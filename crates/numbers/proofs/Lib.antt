@@ -1,0 +1,10 @@
+pub mod Cells
+pub mod Entries
+pub mod Lines
+pub mod Slots
+pub mod Puts
+pub mod Compared
+pub mod Each
+pub mod Heads
+pub mod Whole
+pub mod Law
