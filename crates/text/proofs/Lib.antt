@@ -1,0 +1,4 @@
+pub mod Places
+pub mod Storing
+pub mod Holding
+pub mod Reading
