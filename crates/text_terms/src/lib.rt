@@ -1,0 +1,1 @@
+// What holds of the text of a sound state stands in specs/ and is proved in proofs/.
