@@ -1,6 +1,7 @@
 //! An earlier library, out of a shared object, called as the linked one is.
 
 use crate::replay::Part;
+use crate::text;
 use sa110_compare::packed::{Cp15, Packed, State};
 use sa110_compare::side_by_side::{Numbers, Setting};
 use sa110_compare::NO_CALL;
@@ -56,6 +57,11 @@ type Replay = unsafe extern "C" fn(
     usize,
 ) -> u32;
 
+type StoreText =
+    unsafe extern "C" fn(*const State, *const Cp15, *const u8, usize, *mut u8, usize) -> u64;
+type ReadText =
+    unsafe extern "C" fn(*mut State, *mut Cp15, *const u8, usize, *const u8, usize) -> u32;
+
 /// The functions of an earlier library. Its state, and its record of a replay, have the layout of
 /// include/sa110.h.
 #[derive(Clone, Copy)]
@@ -64,6 +70,8 @@ pub struct Earlier {
     run: Run,
     sound: Option<Sound>,
     replay: Option<Replay>,
+    store_text: Option<StoreText>,
+    read_text: Option<ReadText>,
 }
 
 impl Earlier {
@@ -95,12 +103,16 @@ impl Earlier {
         let run = run.ok_or_else(|| missing("sa110_run"))?;
         let call = call.ok_or_else(|| missing("sa110_call"))?;
         let replay = symbol(c"sa110_replay");
+        let store_text = symbol(c"sa110_store_text");
+        let read_text = symbol(c"sa110_read_text");
         Ok(unsafe {
             Earlier {
                 call: transmute::<*mut c_void, Call>(call),
                 run: transmute::<*mut c_void, Run>(run),
                 sound: sound.map(|f| transmute::<*mut c_void, Sound>(f)),
                 replay: replay.map(|f| transmute::<*mut c_void, Replay>(f)),
+                store_text: store_text.map(|f| transmute::<*mut c_void, StoreText>(f)),
+                read_text: read_text.map(|f| transmute::<*mut c_void, ReadText>(f)),
             }
         })
     }
@@ -127,6 +139,48 @@ impl Earlier {
                 out.as_mut_ptr(),
                 out.len(),
             )
+        }))
+    }
+
+    /// Storing a state as text, where the library has it.
+    pub fn store_text(&self) -> Option<Box<text::Store>> {
+        let store = self.store_text?;
+        Some(Box::new(move |p, memory, text| {
+            let code = unsafe {
+                store(
+                    &p.state,
+                    &p.cp15,
+                    memory.as_ptr(),
+                    memory.len(),
+                    text.as_mut_ptr(),
+                    text.len(),
+                )
+            };
+            match code >> 32 {
+                0 => Ok(code as usize),
+                _ => Err(code as u32),
+            }
+        }))
+    }
+
+    /// Reading a text back, where the library has it.
+    pub fn read_text(&self) -> Option<Box<text::Read>> {
+        let read = self.read_text?;
+        Some(Box::new(move |p, memory, text| {
+            let refusal = unsafe {
+                read(
+                    &mut p.state,
+                    &mut p.cp15,
+                    memory.as_ptr(),
+                    memory.len(),
+                    text.as_ptr(),
+                    text.len(),
+                )
+            };
+            match refusal {
+                0 => Ok(()),
+                number => Err(number),
+            }
         }))
     }
 

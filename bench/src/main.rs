@@ -6,6 +6,7 @@ mod earlier;
 mod measure;
 mod replay;
 mod soundness;
+mod text;
 
 use earlier::Earlier;
 use measure::{earlier_columns, earlier_names, measure, Line, Measured};
@@ -13,8 +14,9 @@ use measure::{earlier_columns, earlier_names, measure, Line, Measured};
 const ROUNDS: usize = 1000;
 
 const HOW: &str = "\
-use: cargo run --release --offline [-- [replay] ROUNDS [EARLIER.so]]
+use: cargo run --release --offline [-- [replay | text] ROUNDS [EARLIER.so]]
   replay      only the replay of traces is measured
+  text        only states as text are measured
   ROUNDS      how often each side is measured, at least 1; 1000 if left out
   EARLIER.so  a shared object of an earlier library, which is measured too; one of the library itself shows what linking alone does
 tools/library writes the library that is measured. A static library becomes a shared object by
@@ -33,7 +35,7 @@ soundness: the test of refusal 3 on one sound state again and again, 512 lines, 
 
 fn main() {
     let mut arguments = std::env::args().skip(1).peekable();
-    let replays_alone = arguments.next_if(|first| first == "replay").is_some();
+    let only = arguments.next_if(|first| first == "replay" || first == "text");
     let (rounds, earlier) = match asked(arguments) {
         Ok(asked) => asked,
         Err(wrong) => {
@@ -41,34 +43,50 @@ fn main() {
             std::process::exit(2);
         }
     };
-    if !replays_alone {
-        calls(rounds, earlier);
+    match only.as_deref() {
+        Some("replay") => replays(rounds, earlier),
+        Some(_) => print_rows(text::lines(earlier), text::WHAT, rounds, earlier.is_some()),
+        None => {
+            calls(rounds, earlier);
+            replays(rounds, earlier);
+        }
     }
+}
+
+/// Prints the table of the soundness test, of calls and of texts.
+fn calls(rounds: usize, earlier: Option<Earlier>) {
+    let mut lines: Vec<Line> = Vec::new();
+    lines.extend(soundness::lines(earlier));
+    lines.extend(calls::lines(earlier));
+    lines.extend(text::lines(earlier));
+    let what = format!("{WHAT}\n{}\n{}", calls::WHAT, text::WHAT);
+    print_rows(lines, &what, rounds, earlier.is_some());
+    println!();
+}
+
+/// Prints what is measured, and a row for each line, with the columns of an earlier library where one is named.
+fn print_rows(mut lines: Vec<Line>, what: &str, rounds: usize, named: bool) {
+    println!("{what}");
+    println!("{rounds} rounds, each side in turn\n");
+    print!(
+        "{:<28}{:>18}{:>18}{:>8}",
+        "ns a call", "library", "model", "ratio"
+    );
+    println!("{}", earlier_names(named));
+    for line in &mut lines {
+        let measured = measure(line, rounds);
+        println!("{}", row(&line.name, &measured, named));
+    }
+}
+
+/// Prints the table of replays.
+fn replays(rounds: usize, earlier: Option<Earlier>) {
     println!("{}", replay::WHAT);
     println!("{rounds} rounds, each side in turn\n");
     if let Err(problem) = replay::print_rows(rounds, earlier) {
         eprintln!("replay: {problem}");
         std::process::exit(1);
     }
-}
-
-/// Prints the table of the soundness test and of calls.
-fn calls(rounds: usize, earlier: Option<Earlier>) {
-    let mut lines: Vec<Line> = Vec::new();
-    lines.extend(soundness::lines(earlier));
-    lines.extend(calls::lines(earlier));
-    println!("{WHAT}\n{}", calls::WHAT);
-    println!("{rounds} rounds, each side in turn\n");
-    print!(
-        "{:<28}{:>18}{:>18}{:>8}",
-        "ns a call", "library", "model", "ratio"
-    );
-    println!("{}", earlier_names(earlier.is_some()));
-    for line in &mut lines {
-        let measured = measure(line, rounds);
-        println!("{}", row(&line.name, &measured, earlier.is_some()));
-    }
-    println!();
 }
 
 /// A row of the table, with the columns of an earlier library where one is named.

@@ -7,6 +7,8 @@ pub mod met;
 pub mod packed;
 pub mod replays;
 pub mod side_by_side;
+pub mod sound;
+pub mod texts;
 
 pub use sa110::{plain_run, right, walk, PlainRan, NO_CALL};
 use sa110_model::Call;

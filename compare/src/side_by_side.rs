@@ -195,7 +195,7 @@ fn looked_at(numbers: &Numbers) -> u32 {
 }
 
 /// What differs between two states and records, the first place of each list.
-fn difference(proved: &Packed, model: &Packed) -> Option<String> {
+pub(crate) fn difference(proved: &Packed, model: &Packed) -> Option<String> {
     if proved == model {
         return None;
     }

@@ -14,7 +14,8 @@
 //! | Rules for a run, the plain machine | `plain`, `rules`, `term3` |
 //!
 //! `library` holds the entry points: `start`, `call`, `run`, `look`. `replay` replays traces kept as text
-//! (document 02, One). The swap (document 02, Two) is a data access.
+//! (document 02, One). The swap (document 02, Two) is a data access. `text` stores a state as text and
+//! reads it back (document 02, Four).
 //! `random` makes runs and states; `coverage` counts what happened in them.
 
 pub mod access;
@@ -36,6 +37,7 @@ pub mod rules;
 pub mod soundness;
 pub mod state;
 pub mod term3;
+pub mod text;
 pub mod tlb;
 pub mod walk;
 pub mod words;

@@ -1,26 +1,27 @@
-//! Refusals 1 to 12 in checking order.
+//! Refusals 1 to 12 in checking order. 14 and 15 are met by texts alone: see `text`.
 
 use crate::calls::Call;
 use crate::registers::{control_listed, operation, BIG_ENDIAN};
 use crate::soundness;
 use crate::state::{Registers, State, MEMORY_LIMIT, STORE_BYTES};
 
-/// Refusals 1 and 2: the lengths of the lent memory and store.
-pub fn of_lengths(memory: usize, store: usize) -> Option<u32> {
-    if !memory.is_multiple_of(32) || memory > MEMORY_LIMIT {
-        return Some(1);
-    }
-    if store != STORE_BYTES {
-        return Some(2);
-    }
-    None
+/// Refusal 1: the length of the lent memory.
+pub fn of_memory(memory: usize) -> Option<u32> {
+    (!memory.is_multiple_of(32) || memory > MEMORY_LIMIT).then_some(1)
 }
 
-/// Refusals 1 to 4: the lent things. 3 goes by the memory lent in this call.
+/// Refusals 1 and 2: the lengths of the lent memory and store.
+pub fn of_lengths(memory: usize, store: usize) -> Option<u32> {
+    of_memory(memory).or_else(|| (store != STORE_BYTES).then_some(2))
+}
+
+/// Refusals 1 to 4: the lent things.
 pub fn of_lent(state: &State, registers: &Registers, memory: usize, store: usize) -> Option<u32> {
-    if let Some(number) = of_lengths(memory, store) {
-        return Some(number);
-    }
+    of_lengths(memory, store).or_else(|| of_state(state, registers, memory))
+}
+
+/// Refusals 3 and 4, where 1 does not hold. 3 goes by the memory lent in this call.
+pub fn of_state(state: &State, registers: &Registers, memory: usize) -> Option<u32> {
     if !soundness::is_sound(state, registers, memory as u32) {
         return Some(3);
     }

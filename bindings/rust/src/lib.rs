@@ -1,6 +1,8 @@
 //! The SA-110 data side for Rust: safe functions over the static library. include/sa110.h says what
-//! each function does; document 01, and document 02 for replays and swaps, is the authority on every
-//! meaning. Every error is an answer, and nothing panics.
+//! each function does; document 01, and document 02 for replays, swaps and states as text, is the authority
+//! on every meaning. Every error is an answer, and nothing panics.
+
+mod text;
 
 use std::mem::{offset_of, size_of};
 
@@ -20,6 +22,8 @@ pub const FIELDS: usize = 5;
 pub const TRACE_LINE: usize = 64;
 /// The longest printed line.
 pub const PRINTED_LINE: usize = 34;
+/// The longest text of a sound state.
+pub const TEXT_MAX: usize = 12_847;
 /// The memory's length in which `replay` replays a text.
 pub const REPLAY_MEMORY: usize = 65_536;
 
@@ -104,6 +108,10 @@ pub const REFUSED_BIG_ENDIAN: u32 = 11;
 pub const REFUSED_CONTROL: u32 = 12;
 /// A line of a trace as text departs from the form.
 pub const REFUSED_LINE: u32 = 13;
+/// A state's text that is read back departs from the form.
+pub const REFUSED_TEXT: u32 = 14;
+/// The slice lent for a state's text is too short.
+pub const REFUSED_ROOM: u32 = 15;
 
 /// The answer to five numbers that are no call.
 pub const NO_CALL: u64 = 3 << 32;

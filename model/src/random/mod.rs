@@ -2,9 +2,11 @@
 
 pub mod damage;
 pub mod guided;
+pub mod longest;
 pub mod proposals;
 pub mod rng;
 pub mod states;
+pub mod stored;
 pub mod texts;
 pub mod world;
 
