@@ -1,9 +1,11 @@
-/* Damaged input from C: random and damaged states and replays, wrong lengths, numbers that are no call, malformed texts.
+/* Damaged input from C: random and damaged states and replays, wrong lengths, numbers that are no call, malformed traces, damaged texts of states.
  * Each lent thing lies against a page that cannot be read or written, or in a block of its own from malloc for valgrind to watch, so that an
  * access outside ends the program. Checked are: a start writes the whole state and record; the answer is one of document 01's; a refused call, a
  * look and a soundness test change nothing; a state that was sound stays so; a run of the list answers and leaves the same. A swap answers what a load
  * answers before it, and a load after it answers the value swapped in. A replay that is refused changes nothing but its last two fields; any other prints
- * and leaves what a call for each line gives, in parts and slices of any length. */
+ * and leaves what a call for each line gives, in parts and slices of any length. A state is stored as the text that is laid and read here, and read back
+ * from it, with a memory that cannot be touched; a storing that is refused changes no byte of its slice, and others none behind the text; a reading that is
+ * refused leaves zeros; a run that is stopped, stored and read back ends as the unbroken run. */
 #define _GNU_SOURCE
 #include "sa110.h"
 #include <stdio.h>
@@ -615,6 +617,430 @@ static void one_replay(void) {
     drop(&before);
 }
 
+#define NUMBERS 3085                 /* of the text of a state */
+#define TEXT_ROOM (NUMBERS * 21 + 64) /* for a text of numbers of 64 bits, and some bytes more */
+
+static uint64_t stored[16], read_back[16], carried_on; /* by the refusal's number, 0 where there is none */
+
+/* A block to lend that cannot be touched at all. */
+static struct block closed(size_t length) {
+    struct block b = {NULL, length, NULL, length + (size_t)sysconf(_SC_PAGESIZE)};
+    b.pages = mmap(NULL, b.pages_length, PROT_NONE, MAP_PRIVATE | MAP_ANONYMOUS, -1, 0);
+    if (b.pages == MAP_FAILED) {
+        fail("no memory left");
+    }
+    b.at = b.pages;
+    return b;
+}
+
+/* The byte behind number i of a text. */
+static char behind(size_t i) {
+    int last = i < 29 ? i == 28 : i < 381 ? (i - 29) % 11 == 10 : i < 2941 ? (i - 381) % 5 == 4 : (i - 2941) % 18 == 17;
+    return last ? '\n' : ',';
+}
+
+/* The numbers of state and record, in the text's order. */
+static void numbers_of(const struct sa110_state *s, const struct sa110_cp15 *c, uint64_t *n) {
+    const struct sa110_registers *r = &c->registers;
+    const struct sa110_counts *k = &s->counts;
+    const uint64_t front[] = {r->control, r->base, r->domains, r->fsr, r->far, s->size, c->pointer};
+    const uint64_t back[] = {s->used, k->calls, k->misses, k->hits, k->fills, k->halves};
+    size_t i, j;
+    memcpy(n, front, sizeof front);
+    memcpy(n + 23, back, sizeof back);
+    for (i = 0; i < SA110_SETS; i++) {
+        n[7 + i] = s->pointers[i];
+    }
+    for (i = 0, n += 29; i < SA110_TLB_ENTRIES; i++, n += 11) {
+        uint64_t w = s->entries[i];
+        const uint64_t entry[] = {w & 1,       w >> 3 & 31,  (w >> 44) << 12, (w >> 24 & 0xFFFFF) << 12, w >> 8 & 255, w >> 16 & 3,
+                                  w >> 18 & 3, w >> 20 & 3, w >> 22 & 3,     w >> 1 & 1,                w >> 2 & 1};
+        memcpy(n, entry, sizeof entry);
+    }
+    for (i = 0; i < SA110_LINES; i++, n += 5) {
+        uint64_t w = s->lines[i];
+        const uint64_t line[] = {w >> 32, w >> 3 & 0x1FFFFFFF, w & 1, w >> 1 & 1, w >> 2 & 1};
+        memcpy(n, line, sizeof line);
+    }
+    for (i = 0; i < SA110_BUFFER_ENTRIES; i++, n += 18) {
+        for (j = 0; j < SA110_BLOCK_BYTES; j++) {
+            n[j] = s->slots[i].bytes[j];
+        }
+        n[16] = s->words[i] & UINT32_MAX;
+        n[17] = s->words[i] >> 32;
+    }
+}
+
+/* Writes the text of numbers, and gives its length. */
+static size_t lay_text(const uint64_t *numbers, uint8_t *text) {
+    size_t i, n = 0;
+    for (i = 0; i < NUMBERS; i++) {
+        n += (size_t)sprintf((char *)text + n, "%llu%c", (unsigned long long)numbers[i], behind(i));
+    }
+    return n;
+}
+
+/* The numbers of a text; gives 0 where it departs from the form. */
+static int parse_text(const uint8_t *text, size_t length, uint64_t *numbers) {
+    const uint8_t *at = text, *end = text + length, *from;
+    uint32_t n;
+    size_t i;
+    for (i = 0; i < NUMBERS; i++) {
+        from = at;
+        if (!field(&at, end, &n) || (*from == '0' && at - from > 1) || at == end || *at++ != behind(i)) {
+            return 0;
+        }
+        numbers[i] = n;
+    }
+    return at == end;
+}
+
+/* State and record of numbers of 32 bits; gives 0 where one does not fit its field: where other numbers come out again. */
+static int pack_text(const uint64_t *numbers, struct sa110_state *s, struct sa110_cp15 *c) {
+    static uint64_t again[NUMBERS];
+    const uint64_t *n = numbers;
+    size_t i, j;
+    const struct sa110_registers r = {(uint32_t)n[0], (uint32_t)n[1], (uint32_t)n[2], (uint32_t)n[3], (uint32_t)n[4]};
+    const struct sa110_counts k = {(uint32_t)n[24], (uint32_t)n[25], (uint32_t)n[26], (uint32_t)n[27], (uint32_t)n[28]};
+    c->registers = r;
+    c->pointer = (uint32_t)n[6];
+    s->size = n[5];
+    s->used = n[23];
+    s->counts = k;
+    for (i = 0; i < SA110_SETS; i++) {
+        s->pointers[i] = (uint32_t)n[7 + i];
+    }
+    for (i = 0, n += 29; i < SA110_TLB_ENTRIES; i++, n += 11) {
+        s->entries[i] = (n[0] & 1) | (n[9] & 1) << 1 | (n[10] & 1) << 2 | (n[1] & 31) << 3 | (n[4] & 255) << 8 | (n[5] & 3) << 16 | (n[6] & 3) << 18 |
+                        (n[7] & 3) << 20 | (n[8] & 3) << 22 | n[3] >> 12 << 24 | n[2] >> 12 << 44;
+    }
+    for (i = 0; i < SA110_LINES; i++, n += 5) {
+        s->lines[i] = (n[2] & 1) | (n[3] & 1) << 1 | (n[4] & 1) << 2 | (n[1] & 0x1FFFFFFF) << 3 | n[0] << 32;
+    }
+    for (i = 0; i < SA110_BUFFER_ENTRIES; i++, n += 18) {
+        for (j = 0; j < SA110_BLOCK_BYTES; j++) {
+            s->slots[i].bytes[j] = (uint8_t)n[j];
+        }
+        s->words[i] = n[16] | n[17] << 32;
+    }
+    numbers_of(s, c, again);
+    return memcmp(numbers, again, sizeof again) == 0;
+}
+
+static int fits(size_t memory_length) { return memory_length % 32 == 0 && memory_length <= SA110_MEMORY_MAX; }
+
+/* What a reading is to answer, and the state and the record that it is to leave. */
+static uint32_t expect_read(size_t n, const uint8_t *text, size_t length, struct sa110_state *s, struct sa110_cp15 *c) {
+    static uint64_t numbers[NUMBERS];
+    uint32_t expected = 0;
+    memset(s, 0, sizeof *s);
+    memset(c, 0, sizeof *c);
+    if (!fits(n)) {
+        return SA110_REFUSED_MEMORY;
+    }
+    if (!parse_text(text, length, numbers)) {
+        return SA110_REFUSED_TEXT;
+    }
+    if (!pack_text(numbers, s, c) || sa110_sound(s, c, n) == 0) {
+        expected = SA110_REFUSED_STATE;
+    } else if (s->size != n) {
+        expected = SA110_REFUSED_LENGTH;
+    }
+    if (expected != 0) {
+        memset(s, 0, sizeof *s);
+        memset(c, 0, sizeof *c);
+    }
+    return expected;
+}
+
+/* The length of a slice for a text. */
+static size_t some_room(size_t size) {
+    const size_t rooms[] = {0, size - 1, size, below((uint32_t)size), SA110_TEXT_MAX, size + below(200)};
+    return rooms[below(6)];
+}
+
+/* Stores a machine's state and record for a memory of n bytes, and checks all that it does, by their text. */
+static void store_one(struct machine *m, size_t n, const uint8_t *text, size_t size) {
+    struct machine before = machine_of(m);
+    size_t i, room = some_room(size);
+    struct block out = lend(room), memory = closed(n);
+    uint32_t expected = !fits(n) ? 1 : sa110_sound(state(m), cp15(m), n) == 0 ? 3 : state(m)->size != n ? 4 : room < size ? 15 : 0;
+    memset(out.at, 0x77, room);
+    uint64_t answer = sa110_store_text(state(m), cp15(m), memory.at, n, out.at, room);
+    if (answer != (expected != 0 ? (uint64_t)SA110_REFUSED << 32 | expected : size)) {
+        fail("a storing answers something else");
+    }
+    if (!same(m, &before)) {
+        fail("a storing changes state or record");
+    }
+    if (expected == 0 && (memcmp(out.at, text, size) != 0 || size > SA110_TEXT_MAX)) {
+        fail("a storing writes another text");
+    }
+    for (i = expected == 0 ? size : 0; i < room; i++) {
+        if (out.at[i] != 0x77) {
+            fail("a storing writes behind its text, or is refused and writes");
+        }
+    }
+    stored[expected]++;
+    give_back(&out);
+    give_back(&memory);
+    drop(&before);
+}
+
+/* Reads a text back for a memory of n bytes, and checks all that it does; where it is read, stores it again. */
+static void read_one(size_t n, const uint8_t *text, size_t length) {
+    struct block s = lend(sizeof(struct sa110_state)), c = lend(sizeof(struct sa110_cp15)), memory = closed(n), given = lend(length), again = lend(length);
+    struct sa110_state expected_state;
+    struct sa110_cp15 expected_cp15;
+    uint32_t expected = expect_read(n, text, length, &expected_state, &expected_cp15);
+    memset(s.at, 0xAA, s.length);
+    memset(c.at, 0xAA, c.length);
+    memcpy(given.at, text, length);
+    uint32_t answer = sa110_read_text((struct sa110_state *)s.at, (struct sa110_cp15 *)c.at, memory.at, n, given.at, length);
+    if (answer != expected || memcmp(given.at, text, length) != 0) {
+        fail("a reading answers something else, or changes its text");
+    }
+    if (!sa110_same_state((struct sa110_state *)s.at, &expected_state) || memcmp(c.at, &expected_cp15, c.length) != 0) {
+        fail("a reading leaves another state or record");
+    }
+    if (answer == 0 && (sa110_store_text((struct sa110_state *)s.at, (struct sa110_cp15 *)c.at, memory.at, n, again.at, length) != length ||
+                        memcmp(again.at, text, length) != 0)) {
+        fail("a text that was read is stored as another");
+    }
+    read_back[answer]++;
+    give_back(&s);
+    give_back(&c);
+    give_back(&memory);
+    give_back(&given);
+    give_back(&again);
+}
+
+/* Puts other numbers into some places of a text. */
+static void damage_numbers(uint64_t *numbers) {
+    static const uint64_t others[] = {0,   1,    2,     3,     4,     7,        8,        9,          15,         16, 31, 32, 255,
+                                      256, 4096, 16384, 65535, 65536, 0x7FFFFF, 0x800000, 0xFFFFFFFF, 0x100000000};
+    uint32_t times = 1 + below(2);
+    while (times-- > 0) {
+        uint64_t *n = numbers + (chance(2) ? below(NUMBERS) : chance(2) ? below(29) : 2941 + below(144));
+        *n = chance(4) ? word() : chance(3) ? *n + 1 : others[below(sizeof others / sizeof *others)];
+    }
+}
+
+/* Damages the bytes of a text, and gives its new length. */
+static size_t damage_text(uint8_t *text, size_t length) {
+    static const char bytes[] = "0123456789,\n\r +-x";
+    size_t i, at = below((uint32_t)length);
+    switch (below(10)) {
+    case 0: /* cut anywhere, behind a line, or before its last line feed */
+        return chance(3) ? length - 1 : chance(2) ? at : (size_t)((uint8_t *)memchr(text + at, '\n', length - at) - text) + 1;
+    case 1: /* a byte is another */
+        text[at] = chance(2) ? (uint8_t)any() : (uint8_t)bytes[below(sizeof bytes)];
+        return length;
+    case 2: /* a byte is missing */
+        memmove(text + at, text + at + 1, length - at - 1);
+        return length - 1;
+    case 3: /* a byte more */
+        memmove(text + at + 1, text + at, length - at);
+        text[at] = (uint8_t)bytes[below(sizeof bytes)];
+        return length + 1;
+    case 4: /* bytes behind the end, often one line feed */
+        text[length] = '\n';
+        for (i = chance(2); i < at % 40; i++) {
+            text[length + i] = (uint8_t)bytes[below(sizeof bytes)];
+        }
+        return length + (chance(2) ? 1 : i);
+    case 5: /* bytes of any kind */
+        for (i = 0; i < at; i++) {
+            text[i] = (uint8_t)any();
+        }
+        return at;
+    default: /* none */
+        return length;
+    }
+}
+
+/* A number up to a limit, often the limit itself. */
+static uint32_t up_to(uint32_t most) { return chance(4) ? most : most == UINT32_MAX ? word() : below(most + 1); }
+
+/* The numbers of any sound TLB, some of its entries empty. */
+static void sound_entries(uint64_t *n) {
+    size_t i;
+    for (i = 0; i < SA110_TLB_ENTRIES; i++, n += 11) {
+        uint32_t size = up_to(2), mask = ~0u << (size == 0 ? 20 : size == 1 ? 16 : 12);
+        const uint64_t entry[] = {1,        size,     up_to(UINT32_MAX) & mask, up_to(UINT32_MAX) & mask, up_to(15), up_to(3),
+                                  up_to(3), up_to(3), up_to(3),                 up_to(1),                 up_to(1)};
+        memcpy(n, entry, chance(8) ? 0 : sizeof entry);
+    }
+}
+
+/* The numbers of any sound lines for a memory of some length, some of them empty; gives how many halves are dirty. */
+static uint32_t sound_lines(uint64_t *n, size_t length) {
+    uint32_t i, dirty = 0;
+    for (i = 0; i < SA110_LINES && length > 0; i++, n += 5) {
+        const uint64_t line[] = {up_to(0x3FFFF) << 5 | i % 32, up_to((uint32_t)length / 32 - 1), 1, up_to(1), up_to(1)};
+        memcpy(n, line, chance(8) ? 0 : sizeof line);
+        dirty += (uint32_t)(n[3] + n[4]);
+    }
+    return dirty;
+}
+
+/* The numbers of any sound buffer entries for a memory of some length; gives how many there are. */
+static uint32_t sound_slots(uint64_t *n, size_t length) {
+    uint32_t i, j, used = length == 0 ? 0 : up_to(SA110_BUFFER_ENTRIES);
+    for (i = 0; i < used; i++, n += 18) {
+        n[16] = 1 + up_to(0xFFFE);
+        n[17] = up_to((uint32_t)length / 16 - 1);
+        for (j = 0; j < SA110_BLOCK_BYTES; j++) {
+            n[j] = (n[16] >> j & 1) * up_to(255);
+        }
+    }
+    return used;
+}
+
+/* The numbers of any sound state and record for a memory of some length, many of them as large as they can be. */
+static void sound_numbers(uint64_t *n, size_t length) {
+    static const uint32_t controls[] = {0, 1, 9, 13};
+    uint32_t i, dirty, calls = UINT32_MAX - up_to(1u << below(31));
+    memset(n, 0, NUMBERS * sizeof *n);
+    sound_entries(n + 29);
+    dirty = sound_lines(n + 381, length);
+    n[0] = controls[below(4)] | (up_to(UINT32_MAX) & (SA110_A | SA110_S | SA110_R | SA110_I));
+    n[1] = up_to(UINT32_MAX) & 0xFFFFC000;
+    n[2] = up_to(UINT32_MAX);
+    n[3] = up_to(255);
+    n[4] = up_to(UINT32_MAX);
+    n[5] = length;
+    for (i = 6; i < 23; i++) {
+        n[i] = up_to(31);
+    }
+    n[23] = sound_slots(n + 2941, length);
+    n[24] = calls;
+    for (i = 25; i < 28; i++) {
+        n[i] = up_to(calls);
+    }
+    n[28] = up_to(calls - dirty);
+}
+
+/* A machine of such numbers; memory and cache store are not lent. */
+static struct machine sound_machine(size_t length) {
+    static uint64_t numbers[NUMBERS];
+    struct machine m = {lend(sizeof(struct sa110_state)), lend(sizeof(struct sa110_cp15)), lend(0), lend(0)};
+    memset(m.state.at, 0, m.state.length);
+    sound_numbers(numbers, length);
+    if (!pack_text(numbers, state(&m), cp15(&m)) || (fits(length) && sa110_sound(state(&m), cp15(&m), length) == 0)) {
+        fail("a state that was made sound is not");
+    }
+    return m;
+}
+
+static void one_text(void) {
+    static uint64_t numbers[NUMBERS];
+    static uint8_t text[TEXT_ROOM];
+    int any_state = chance(2);
+    size_t size, n = chance(3) ? SA110_MEMORY_MAX : memory_length();
+    struct machine m = any_state ? sound_machine(n / 32 * 32) : some_machine();
+    n = any_state ? n : m.memory.length;
+    damage(&m);
+    numbers_of(state(&m), cp15(&m), numbers);
+    size = lay_text(numbers, text);
+    store_one(&m, n, text, size);
+    if (chance(3)) {
+        damage_numbers(numbers);
+        size = lay_text(numbers, text);
+    }
+    read_one(chance(20) ? memory_length() : n, text, damage_text(text, size));
+    drop(&m);
+}
+
+/* The longest text: each number has as many digits as it can have in a sound state. */
+static void longest_text(void) {
+    static const uint64_t front[] = {0x130F, 0xFFFFC000, UINT32_MAX, 255, UINT32_MAX, SA110_MEMORY_MAX, 31};
+    static const uint64_t back[] = {8, UINT32_MAX, UINT32_MAX, UINT32_MAX, UINT32_MAX, UINT32_MAX - 2 * SA110_LINES};
+    static const uint64_t entry[] = {1, 2, 0xFFFFF000, 0xFFFFF000, 15, 3, 3, 3, 3, 1, 1};
+    static uint64_t numbers[NUMBERS];
+    static uint8_t text[TEXT_ROOM], out[SA110_TEXT_MAX];
+    static struct sa110_state s;
+    static struct sa110_cp15 c;
+    struct block memory = closed(SA110_MEMORY_MAX);
+    uint64_t *n = numbers;
+    size_t i;
+    for (i = 0; i < NUMBERS; i++) {
+        n[i] = i < 29 ? 31 : 255;
+    }
+    memcpy(n, front, sizeof front);
+    memcpy(n + 23, back, sizeof back);
+    for (i = 0, n += 29; i < SA110_TLB_ENTRIES; i++, n += 11) {
+        memcpy(n, entry, sizeof entry);
+    }
+    for (i = 0; i < SA110_LINES; i++, n += 5) {
+        const uint64_t line[] = {0x7FFFFF - i % 32, SA110_MEMORY_MAX / 32 - 1 - i, 1, 1, 1};
+        memcpy(n, line, sizeof line);
+    }
+    for (i = 0; i < SA110_BUFFER_ENTRIES; i++, n += 18) {
+        n[16] = 0xFFFF;
+        n[17] = SA110_MEMORY_MAX / 16 - 1 - i;
+    }
+    if (!pack_text(numbers, &s, &c) || lay_text(numbers, text) != SA110_TEXT_MAX ||
+        sa110_store_text(&s, &c, memory.at, memory.length, out, sizeof out) != SA110_TEXT_MAX || memcmp(out, text, sizeof out) != 0) {
+        fail("the longest text is another");
+    }
+    give_back(&memory);
+}
+
+static size_t run(struct machine *m, const uint32_t *calls, size_t n, uint64_t *answers) {
+    return sa110_run(state(m), cp15(m), m->memory.at, m->memory.length, m->store.at, m->store.length, calls, n * SA110_FIELDS, answers, n);
+}
+
+/* A run that is stopped behind any of its calls, stored, read back over another state and record, and carried on. */
+static void one_stop(void) {
+    struct machine whole = some_machine(), cut = machine_of(&whole);
+    uint32_t calls[MOST * SA110_FIELDS];
+    uint64_t codes[MOST], others[MOST], answer;
+    struct block text = lend(SA110_TEXT_MAX);
+    size_t i, n = below(MOST + 1), made, first;
+    for (i = 0; i < n; i++) {
+        numbers(calls + i * SA110_FIELDS);
+    }
+    made = run(&whole, calls, n, codes);
+    first = run(&cut, calls, below((uint32_t)n + 1), others);
+    answer = sa110_store_text(state(&cut), cp15(&cut), cut.memory.at, cut.memory.length, text.at, text.length);
+    if (sa110_kind(answer) == SA110_SERVED) {
+        memset(cut.state.at, 0xAA, cut.state.length);
+        memset(cut.cp15.at, 0xAA, cut.cp15.length);
+        if (sa110_read_text(state(&cut), cp15(&cut), cut.memory.at, cut.memory.length, text.at, sa110_value(answer)) != 0) {
+            fail("what was stored is not read back");
+        }
+        first += run(&cut, calls + first * SA110_FIELDS, n - first, others + first);
+        if (first != made || memcmp(codes, others, made * sizeof *codes) != 0 || !same(&cut, &whole)) {
+            fail("a run that was stopped and carried on differs from the unbroken one");
+        }
+        carried_on++;
+    } else if (fits(cut.memory.length) && state(&cut)->size == cut.memory.length) {
+        fail("the state of a run is not stored");
+    }
+    give_back(&text);
+    drop(&whole);
+    drop(&cut);
+}
+
+/* Prints what was met of texts; gives how much was not. */
+static uint32_t report_texts(void) {
+    static const uint32_t storing[] = {0, 1, 3, 4, 15}, reading[] = {0, 1, 14, 3, 4};
+    uint32_t i, missing = carried_on == 0;
+    printf("texts stored, refused by 1, 3, 4, 15:");
+    for (i = 0; i < 5; i++) {
+        printf(" %llu", (unsigned long long)stored[storing[i]]);
+        missing += stored[storing[i]] == 0;
+    }
+    printf("\ntexts read back, refused by 1, 14, 3, 4:");
+    for (i = 0; i < 5; i++) {
+        printf(" %llu", (unsigned long long)read_back[reading[i]]);
+        missing += read_back[reading[i]] == 0;
+    }
+    printf("\nruns stopped and carried on %llu\n", (unsigned long long)carried_on);
+    return missing;
+}
+
 /* Prints what was met; gives how much was not. */
 static uint32_t report(uint64_t cases) {
     uint32_t i, missing = 0;
@@ -641,7 +1067,7 @@ static uint32_t report(uint64_t cases) {
     printf("calls of a replay %llu, refused by 3 %llu, lines %llu, malformed ones %llu\n", (unsigned long long)replays,
            (unsigned long long)replays_refused, (unsigned long long)replayed, (unsigned long long)malformed);
     missing += replays_refused == 0 || malformed == 0;
-    return missing;
+    return missing + report_texts();
 }
 
 int main(int argc, char **argv) {
@@ -661,8 +1087,13 @@ int main(int argc, char **argv) {
         one_case();
         one_replay();
     }
+    longest_text();
+    for (i = 0; i < cases; i++) {
+        one_text();
+        one_stop();
+    }
     if (report(cases) > 0 && cases >= 2000) {
-        fail("not every refusal, status, swap, look and end of a replay was met");
+        fail("not every refusal, status, swap, look, end of a replay and answer of a text was met");
     }
     printf("damaged: ok\n");
     return 0;

@@ -1,12 +1,12 @@
 /* The SA-110 data side for C and C++: coprocessor 15, data TLB, page walk, Dcache and write buffer, over memory that the caller lends.
  *
- * The authority on every meaning is document 01 ("The SA-110 data side"), and of replays and swaps document 02 ("What customers request later"). The
- * functions are proved to meet their definitions; what this header says in prose is a summary. The proofs speak of the language's abstract machine:
- * they do not cover the compiler's back end, this header, or callers.
+ * The authority on every meaning is document 01 ("The SA-110 data side"), and of replays, swaps and stored texts document 02 ("What customers request
+ * later"). The functions are proved to meet their definitions; what this header says in prose is a summary. The proofs speak of the language's abstract
+ * machine: they do not cover the compiler's back end, this header, or callers.
  *
  * Link with libsa110.a of target/staticlib, which tools/library writes. The library needs memcpy and memset, allocates nothing, keeps nothing
  * between calls, prints nothing and never aborts: every error is an answer. Different states may be used on different threads at the same time. A
- * call takes up to 40 KB of stack, one of sa110_replay up to 100 KB.
+ * call takes up to 40 KB of stack, one of sa110_read_text up to 48 KB, one of sa110_replay up to 100 KB.
  *
  * A slice is a pointer and a length in elements. A pointer must be aligned for its type, must not be null even where the length is 0, and must
  * point to that many elements. What a call may change must not overlap anything else that is lent to that call. These are the only demands: any
@@ -42,6 +42,7 @@ extern "C" {
 #define SA110_FIELDS 5u            /* numbers per call */
 #define SA110_TRACE_LINE 64u       /* the longest line of a trace as text, with the line feed that ends it */
 #define SA110_PRINTED_LINE 34u     /* the longest line that a replay prints, with its line feed */
+#define SA110_TEXT_MAX 12847u      /* the longest text of a sound state, in bytes: a slice of this length has room for every one */
 
 /* ---- Structs ---- */
 
@@ -221,9 +222,10 @@ enum {
 /* An answer is kind * 2^32 + value.
  *
  *   kind                    value
- *   SA110_SERVED            the value loaded or read, a signed one as its 32 bits; the old value of a swap; 0 for a store and a CP15 write
+ *   SA110_SERVED            the value loaded or read, a signed one as its 32 bits; the old value of a swap; 0 for a store and a CP15 write; the
+ *                           text's length for sa110_store_text
  *   SA110_FAULT             FSR: domain * 16 + status. The fault's address is the call's
- *   SA110_REFUSED           the refusal's number, 1 to 12; the call has changed nothing
+ *   SA110_REFUSED           the refusal's number, 1 to 12; 1, 3, 4 or 15 for sa110_store_text; the call has changed nothing
  *   SA110_NO_CALL           0: the five numbers are no call (kind above 5 or privileged above 1); nothing has changed */
 enum {
     SA110_SERVED = 0,
@@ -257,7 +259,8 @@ enum {
 };
 
 /* Refusals, 1 to 12 in the order in which they are tested. A start meets 1 and 2; an access 1 to 7; a CP15 call 1 to 5 and 8 to 12. Refusal 3 is
- * tested with the memory lent to this call. A line of a trace as text meets 13 before all others. */
+ * tested with the memory lent to this call. A line of a trace as text meets 13 before all others. Storing a state as text meets 1, 3, 4 and 15, and
+ * reading one back 1, 14, 3 and 4, each in this order. */
 enum {
     SA110_REFUSED_MEMORY = 1,      /* the memory's length is not a multiple of 32 or exceeds 16,777,216 */
     SA110_REFUSED_STORE = 2,       /* the cache store is not 16,384 bytes */
@@ -271,7 +274,9 @@ enum {
     SA110_REFUSED_OPERATION = 10,  /* the pair for register 7 or 8 is not listed */
     SA110_REFUSED_BIG_ENDIAN = 11, /* a control write sets bit 7 */
     SA110_REFUSED_CONTROL = 12,    /* a control write gives a combination of M, C and W that is not valid */
-    SA110_REFUSED_LINE = 13        /* a line of a trace as text departs from its form; sa110_replay alone */
+    SA110_REFUSED_LINE = 13,       /* a line of a trace as text departs from its form; sa110_replay alone */
+    SA110_REFUSED_TEXT = 14,       /* the text of a state departs from its form; sa110_read_text alone */
+    SA110_REFUSED_ROOM = 15        /* the slice lent for the text of a state is too short; sa110_store_text alone */
 };
 
 /* ---- The library, over a lent state and record ---- */
@@ -346,6 +351,46 @@ uint32_t sa110_sound(const struct sa110_state *state, const struct sa110_cp15 *c
  * Bytes of `out` behind the first r.written stay as they were. */
 uint32_t sa110_replay(struct sa110_replay *replay, uint8_t *memory, size_t memory_length, uint8_t *store, size_t store_length, const uint8_t *text,
                       size_t text_length, uint32_t ends, uint8_t *out, size_t out_length);
+
+/* ---- A state stored as text ---- */
+
+/* State and record as text, so that a run can stop and carry on in another process.
+ *
+ * The text has 553 lines, and nothing before, between or behind them. A line is its fields, parted by commas, and a line feed. A field is a decimal number
+ * of digits alone, without leading zeros and at most 4,294,967,295.
+ *
+ *   lines   fields
+ *   1       29   control (as kept), table base, domains, FSR, FAR; the memory's length at the start; TLB pointer; sixteen set pointers; number of
+ *                write buffer entries; calls, TLB misses, Dcache hits, line fills, halves sent out
+ *   32      11   a TLB entry: valid, size (0 section, 1 large, 2 small), virtual base, physical base, domain, AP0, AP1, AP2, AP3, C, B
+ *   512     5    a Dcache line, set by set and in a set by way: tag, physical line number, valid, low half dirty, high half dirty
+ *   8       18   a write buffer entry, oldest first: sixteen bytes, mask, block number
+ *
+ * Bases are addresses. Entries and lines that are not valid, and places behind the write buffer's entries, have 0 in every field.
+ *
+ * Memory and cache store are not in the text: the host keeps them. Of all that is lent the text tells the memory's length alone, so a host must see to it
+ * that it goes on with the memory and the cache store of the run that it stopped. A replay's own fields, such as `lines`, are not in it either.
+ *
+ * Reading what was stored gives that state and record, to the word. A text that is read, stored again, is that very text. A run stopped anywhere, stored,
+ * read back and carried on, with memory and cache store kept, answers and leaves what the unbroken run does. examples/stop.c does so. */
+
+/* Stores state and record as text at the front of the slice `text`, and answers as sa110_call does: SA110_SERVED with the text's length, or
+ * SA110_REFUSED with 1, 3, 4 or 15, tested in this order, which changes nothing. Bytes of the slice behind the text stay as they were. Memory is lent
+ * for its length alone, and stays. After a served start or reading, with memory of that length and no change but by calls, only 15 can be met, and
+ * SA110_TEXT_MAX bytes are enough. The answer is no size: a refused storing answers more than 2^33.
+ *
+ *     answer = sa110_store_text(&state, &cp15, memory, memory_length, text, sizeof text);
+ *     if (sa110_kind(answer) == SA110_SERVED)
+ *         fwrite(text, 1, sa110_value(answer), file); */
+uint64_t sa110_store_text(const struct sa110_state *state, const struct sa110_cp15 *cp15, const uint8_t *memory, size_t memory_length,
+                          uint8_t *text, size_t text_length);
+
+/* Reads a text back, which is all of the slice `text`: writes its state and record, and gives 0. Refused, it gives 1, 14, 3 or 4, tested in this order, and
+ * writes a state and a record of zeros. What was in them before does not matter. A number that does not fit its field, such as 2 for valid or 256 for a
+ * byte, is refused by 3 and not by 14. Memory is lent for its length alone, and stays. With a shorter memory than the start's a line or a write buffer
+ * entry may lie outside it: that is 3, which is tested before 4. */
+uint32_t sa110_read_text(struct sa110_state *state, struct sa110_cp15 *cp15, const uint8_t *memory, size_t memory_length, const uint8_t *text,
+                         size_t text_length);
 
 /* ---- The plain machine ---- */
 

@@ -7,17 +7,24 @@
     print(m.swap(4, 0x8000, 1))                 # a swap of a word: 1 is stored, and the answer is the old value
     print(m.load(4, 0x4004), m.counts)          # an answer, and the five counts
     answers, plain, memory = m.plain()          # the calls made so far, on the plain machine
+    sa110.save(m, "stopped.zip")                # the machine in a file
+    m = sa110.load("stopped.zip")               # and back, in another process too, to carry on
     print(sa110.replay("3,1,1,0,0\\n"), end="")   # a trace kept as text, replayed on 65,536 zero bytes: 1,0,112
 
-include/sa110.h says what each function of the library does; document 01, and document 02 for replays and swaps, is the authority on every meaning. What
-the library refuses is an answer. A ValueError is raised for numbers that do not fit into 32 bits and for a memory and a cache store that are one
-bytearray, a TypeError for arguments of another type (memory is a length, or a bytearray, whose bytes the calls change; anything else that has bytes is
-copied), and an OSError where the shared object is missing. A replay raises a ValueError where it is fed behind its end, and where its struct's fields
-are outside their ranges.
+include/sa110.h says what each function of the library does; document 01, and document 02 for replays, swaps and stored texts, is the authority on every
+meaning. What the library refuses of a start or a call is an answer. A ValueError is raised for numbers that do not fit into 32 bits and for a memory and
+a cache store that are one bytearray, a TypeError for arguments of another type (memory is a length, or a bytearray, whose bytes the calls change; anything
+else that has bytes is copied), and an OSError where the shared object is missing. A replay raises a ValueError where it is fed behind its end, and where
+its struct's fields are outside their ranges. A StateError, which is a ValueError, is raised where a machine cannot be stored as text or saved, or a text or
+a file cannot be read back; an OSError where a file cannot be opened, read or written.
 """
 
 import ctypes
+import io
 import os
+import struct
+import zipfile
+import zlib
 from ctypes import POINTER, byref, c_size_t, c_uint8, c_uint32, c_uint64
 from operator import index
 from typing import NamedTuple, Optional
@@ -26,6 +33,7 @@ STORE_BYTES = 16384
 FIELDS = 5
 TRACE_LINE = 64  # bytes of the longest line of a trace as text, with its line feed
 PRINTED_LINE = 34  # bytes of the longest line that a replay prints, with its line feed
+TEXT_MAX = 12847  # bytes of the longest text of a sound state
 
 # Kinds of call; a trace as text has no swaps.
 LOAD, SIGNED_LOAD, STORE, READ, WRITE, SWAP = range(6)
@@ -57,7 +65,8 @@ PERMISSION_SECTION, PERMISSION_PAGE = 13, 15
 FILL_SECTION, FILL_PAGE = 4, 6
 OTHER_SECTION, OTHER_PAGE = 8, 10
 
-# Refusals, 1 to 12 in the order in which they are tested; a line of a trace as text meets 13 before all others.
+# Refusals, 1 to 12 in the order in which they are tested; a line of a trace as text meets 13 before all others. Storing a state as text meets 1, 3, 4
+# and 15, and reading one back 1, 14, 3 and 4, each in this order.
 (
     REFUSED_MEMORY,
     REFUSED_STORE,
@@ -72,7 +81,9 @@ OTHER_SECTION, OTHER_PAGE = 8, 10
     REFUSED_BIG_ENDIAN,
     REFUSED_CONTROL,
     REFUSED_LINE,
-) = range(1, 14)
+    REFUSED_TEXT,
+    REFUSED_ROOM,
+) = range(1, 16)
 
 REFUSALS = {
     1: "the memory's length is not a multiple of 32 or exceeds 16,777,216",
@@ -88,6 +99,8 @@ REFUSALS = {
     11: "a control write sets bit 7",
     12: "a control write gives a combination of M, C and W that is not valid",
     13: "a line of a trace as text departs from its form",
+    14: "the text of a state departs from its form",
+    15: "the slice lent for the text of a state is too short",
 }
 
 STATUSES = {
@@ -174,7 +187,7 @@ class ReplayStruct(ctypes.Structure):
     ]
 
 
-_sizes = [ctypes.sizeof(struct) for struct in (Cp15, State, PlainRan, ReplayStruct)]
+_sizes = [ctypes.sizeof(kind) for kind in (Cp15, State, PlainRan, ReplayStruct)]
 if _sizes != [24, 4648, 40, 4848] or State.slots.offset != 4520 or ReplayStruct.begun.offset != 4700 or ReplayStruct.taken.offset != 4832:
     raise ImportError("sa110: the structs have another layout than the library, which is built for 64 bits")
 
@@ -235,6 +248,19 @@ class Answer(int):
     __str__ = __repr__
 
 
+class StateError(ValueError):
+    """Raised where a state cannot be stored as text or saved, or a text or a file cannot be read back: `number` is that of the refusal, whose sentence
+    the message has, or 0 where the file is damaged."""
+
+    def __init__(self, what, number=0):
+        super().__init__(what, number)
+        self.number = number
+
+    def __str__(self):
+        what, number = self.args
+        return f"sa110: {what} is refused by {number:02} ({REFUSALS[number]})" if number else f"sa110: {what}"
+
+
 _library = None
 
 
@@ -262,6 +288,8 @@ def load_library(path=None):
         "sa110_plain_run": (PlainRan, memory + calls),
         "sa110_replay": (c_uint32, [POINTER(ReplayStruct)] + memory * 3 + [c_uint32] + memory),
         "sa110_sound": (c_uint32, [POINTER(State), POINTER(Cp15), c_size_t]),
+        "sa110_store_text": (c_uint64, lent),
+        "sa110_read_text": (c_uint32, lent),
         "sa110_walk": (c_uint64, memory + [c_uint32, c_uint32]),
         "sa110_right": (c_uint8, [c_uint32]),
     }
@@ -366,6 +394,8 @@ class Machine:
 
     def plain(self):
         """Makes the calls made so far on the plain machine: its answers, what it leaves, its memory."""
+        if self.first_memory is None:
+            raise ValueError("sa110: a text was read back, and the calls before it are not known")
         memory = bytearray(self.first_memory)
         answers, ran = plain_run(memory, self.calls)
         return answers, ran, memory
@@ -373,6 +403,22 @@ class Machine:
     def sound(self):
         """Whether the state is sound for the memory."""
         return _lib().sa110_sound(byref(self.state), byref(self.cp15), len(self.memory)) == 1
+
+    def store_text(self):
+        """State and record as text, bytes, in the form that include/sa110.h describes. Memory and cache store are not in it. Raises a StateError where
+        it is refused by 1, 3 or 4."""
+        text = bytearray(TEXT_MAX)
+        answer = Answer(_lib().sa110_store_text(byref(self.state), byref(self.cp15), *_bytes(self.memory), *_bytes(text)))
+        if answer.kind != "value":
+            raise StateError("storing", answer.value)
+        return bytes(text[: answer.value])
+
+    def read_text(self, text):
+        """Takes state and record from a text, bytes or str; memory and cache store are to be those of the run that was stored. `calls` and `answers`
+        begin anew, and `plain` raises a ValueError from then on. Raises a StateError where the text is refused by 1, 14, 3 or 4 (a shorter memory than the
+        start's may be refused by 3, for a line that lies outside it); then nothing has changed."""
+        self.state, self.cp15 = _read_text(text, self.memory, "reading")
+        self.calls, self.answers, self.first_memory = [], [], None
 
     @property
     def counts(self):
@@ -383,6 +429,84 @@ class Machine:
         fields = all(_value(getattr(self.state, name)) == _value(getattr(other.state, name)) for name, _ in State._fields_)
         record = bytes(self.cp15) == bytes(other.cp15)
         return fields and record and self.memory == other.memory and self.cache_store == other.cache_store
+
+
+def _read_text(text, memory, what):
+    """State and record of a text, for a memory."""
+    state, cp15, text = State(), Cp15(), text.encode() if isinstance(text, str) else bytes(memoryview(text))
+    lent = (c_uint8 * max(1, len(text))).from_buffer_copy(text or b"\0")
+    number = _lib().sa110_read_text(byref(state), byref(cp15), *_bytes(memory), lent, len(text))
+    if number != 0:
+        raise StateError(what, number)
+    return state, cp15
+
+
+def save(machine, path):
+    """Writes a machine to a file, which `load` reads: a zip file of state.txt (the text of state and record), memory.bin and store.bin; and, unless a text
+    was read into the machine, of first.bin (the memory at the start), calls.bin (five numbers of 32 bits a call) and answers.bin (64 bits each), both
+    little-endian. Of a machine into which a text was read, calls and answers are not kept. Raises a StateError where the state is refused by 1, 3 or 4 or
+    the cache store by 2, and an OSError where the file cannot be written; a file that had this name is then as it was."""
+    if len(machine.cache_store) != STORE_BYTES:
+        raise StateError("saving", REFUSED_STORE)
+    members = {"state.txt": machine.store_text(), "memory.bin": machine.memory, "store.bin": machine.cache_store}
+    if machine.first_memory is not None:
+        answers = (c_uint64 * len(machine.answers))(*machine.answers)
+        members.update({"first.bin": machine.first_memory, "calls.bin": _list(machine.calls)[0], "answers.bin": answers})
+    zipped = io.BytesIO()
+    with zipfile.ZipFile(zipped, "w") as archive:
+        for name, content in members.items():
+            archive.writestr(zipfile.ZipInfo(name), bytes(content), zipfile.ZIP_DEFLATED)  # a ZipInfo has the time 1980-01-01
+    _replace(os.path.realpath(os.fsdecode(path)), zipped.getvalue())
+
+
+def _replace(path, content):
+    """Writes a file beside the path and gives it that name, so that a failure leaves the old file as it was."""
+    beside = f"{path}.{os.urandom(8).hex()}"
+    try:
+        with open(beside, "xb") as out:
+            out.write(content)
+            out.flush()
+            os.fsync(out.fileno())
+        os.replace(beside, path)
+    except BaseException:
+        if os.path.exists(beside):
+            os.remove(beside)
+        raise
+
+
+def load(path):
+    """The machine that `save` wrote to a file; a load of an address is Machine.load. Raises a StateError where the file is damaged or its text refused, and
+    an OSError where it cannot be read."""
+    path = os.fsdecode(path)
+    with open(path, "rb") as file:
+        content = file.read()
+    try:
+        with zipfile.ZipFile(io.BytesIO(content)) as archive:
+            held = {name: archive.read(name) for name in archive.namelist()}
+    except (zipfile.BadZipFile, zlib.error, struct.error, EOFError, LookupError, OSError, RuntimeError, ValueError) as error:
+        raise StateError(f"{path} is no zip file or is damaged: {error}") from error
+    missing = {"state.txt", "memory.bin", "store.bin"} - held.keys()
+    if missing:
+        raise StateError(f"{path} has no {min(missing)}")
+    if len(held["store.bin"]) != STORE_BYTES:
+        raise StateError(path, REFUSED_STORE)
+    machine = Machine(bytearray(held["memory.bin"]), bytearray(held["store.bin"]))
+    machine.state, machine.cp15 = _read_text(held["state.txt"], machine.memory, path)
+    machine.first_memory, machine.calls, machine.answers = _history(held, path)
+    return machine
+
+
+def _history(held, path):
+    """The memory at the start, the calls made and their answers, of the members of a saved file; or none."""
+    parts = [held.get(name) for name in ("first.bin", "calls.bin", "answers.bin")]
+    if parts == [None] * 3:
+        return None, [], []
+    if None in parts:
+        raise StateError(f"{path} has not all of first.bin, calls.bin and answers.bin")
+    first, calls, answers = parts
+    if len(first) != len(held["memory.bin"]) or len(calls) % (4 * FIELDS) != 0 or len(calls) // (4 * FIELDS) * 8 != len(answers):
+        raise StateError(f"{path} has lengths of first.bin, calls.bin and answers.bin that do not fit")
+    return first, list(struct.iter_unpack("<5I", calls)), [Answer(code) for code, in struct.iter_unpack("<Q", answers)]
 
 
 class Replay:
