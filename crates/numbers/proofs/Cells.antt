@@ -1,5 +1,5 @@
 -- A part of a list, by its elements; numbers of a bit.
-use Prim.Native.Nat.{ℕ, zero, suc, _+_, _≤_, _<_}
+use Prim.Native.Nat.{ℕ, zero, suc, _+_, _%_, _≤_, _<_}
 use native.Mathlib.Omega.{arith}
 use native.Mathlib.Nat.{add-zero}
 use native.Mathlib.Numerals.{add-one}
@@ -10,8 +10,9 @@ use lib.Dec.{eqb, ltb}
 use lib.ListN.{length, getD, take, drop}
 use lib.Seq.{drop-cons}
 use borrow.Author.Tests.{ltb-true}
-use Rattle.values.specs.Bits.{number}
+use Rattle.values.specs.Bits.{bit, number}
 use Rattle.values.proofs.Cases.{and-left, and-right}
+use Rattle.values.proofs.Fields.{bit-number}
 use Rattle.form.specs.Form.{Field, fitIn}
 
 -- n elements from a place on
@@ -32,6 +33,10 @@ pub bit-back : (n : ℕ) → n < 2 → number (eqb n 1) ≡ n
 bit-back zero h = refl
 bit-back (suc zero) h = refl
 bit-back (suc (suc n)) h = absurd (omega arith)
+
+-- the lowest bit of a word, as a number
+pub bit-low : (w : ℕ) → number (bit w 0) ≡ w % 2
+bit-low w = bit-number w 0 ∙ omega arith
 
 -- the bit of a bit's number
 pub number-back : (b : Bool) → eqb (number b) 1 ≡ b

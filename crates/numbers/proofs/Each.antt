@@ -8,17 +8,12 @@ use mathlib.Core.Path.{_≡_, refl, sym, _∙_, ap, subst}
 use mathlib.Core.List.{List}
 use lib.Dec.{eqb}
 use lib.ListN.{length, getD, take, drop, set}
-use lib.Seq.{take-all, drop-drop}
+use lib.Seq.{drop-drop}
 use borrow.Author.Tests.{eqb-true, eqb-false}
 use Rattle.values.proofs.Cases.{case, clash, and-left, and-right, and-both}
-use Rattle.values.proofs.Toward.{Toward, toward-start, toward-step}
+use Rattle.values.proofs.Toward.{Toward, toward-start, toward-step, toward-all}
 use Rattle.form.specs.Form.{Form, eachFits, eachThing}
 use Rattle.numbers.specs.Code.{part, Packs, ThingsRead}
-
--- the whole list has become the other
-toward-all : {A : Type 0} (target old now : List A) (n : ℕ) → Toward target old now n → length old ≡ n → length target ≡ n → now ≡ target
-toward-all target old now n t h k =
-    sym (take-all n now (let e = t .long in omega arith)) ∙ t .front ∙ take-all n target (omega arith)
 
 module _ {A : Type 0} (f : Form A) where
   abbrev w : ℕ
@@ -97,7 +92,8 @@ module _ {A : Type 0} (f : Form A) (width : ℕ) (wide : length (f .places) ≡ 
         let m = g .toward .long in
         record {
           low = omega arith;
-          place = ap (λ (k : ℕ). k + width) (g .place) ∙ onward (i * width) ∙ ap (λ (k : ℕ). from + k) (sym (suc-mul i width) ∙ ap (λ (k : ℕ). k * width) (sym (add-one i)));
+          place = ap (λ (k : ℕ). k + width) (g .place) ∙ onward (i * width)
+              ∙ ap (λ (k : ℕ). from + k) (sym (suc-mul i width) ∙ ap (λ (k : ℕ). k * width) (sym (add-one i)));
           toward = toward-step (eachThing f n all) old now i (g .toward) x d (omega arith) (omega arith)
               (sym back ∙ ap (λ (l : List ℕ). f .thing l) (sym are) ∙ sym (thing-at f n i all d h));
           fit = λ j k. fit-upto j k (ap (λ (l : List ℕ). f .fits l) are ∙ fits);

@@ -20,7 +20,7 @@ use Rattle.numbers.specs.Fields.{entryFrom}
 use Rattle.numbers.specs.Code.{entryLine, part, Packs}
 use Rattle.tlb.proofs.Packing.{entry-word}
 use Rattle.numbers.proofs.Each.{no-thing}
-use Rattle.numbers.proofs.Cells.{cells, part-cells, cells-long, fit-first, fit-rest, bit-back, number-back}
+use Rattle.numbers.proofs.Cells.{cells, part-cells, cells-long, fit-first, fit-rest, bit-back, bit-low, number-back}
 
 pub entry-wide : length (entryLine .places) ≡ 11
 unfolding linePlaces
@@ -46,10 +46,6 @@ ap3 q = omega arith
 above : (w : ℕ) → (w / 0x10000 / 4 ≡ w / 0x40000) × (w / 0x10000 / 16 ≡ w / 0x100000) × (w / 0x10000 / 64 ≡ w / 0x400000)
 above w = (omega arith, omega arith, omega arith)
 
--- the bits of a word, as numbers
-bit0 : (w : ℕ) → number (bit w 0) ≡ w % 2
-bit0 w = bit-number w 0 ∙ omega arith
-
 -- the numbers of the entry of a word, as the code has them
 pub entry-listed : (w : ℕ) → w % 2 ∷ w / 8 % 32 ∷ w / 0x100000000000 * 0x1000 ∷ w / 0x1000000 % 0x100000 * 0x1000 ∷ w / 0x100 % 0x100 ∷ w / 0x10000 % 4
     ∷ w / 0x40000 % 4 ∷ w / 0x100000 % 4 ∷ w / 0x400000 % 4 ∷ w / 2 % 2 ∷ w / 4 % 2 ∷ [] ≡ entryLine .numbers (entryOf w)
@@ -61,7 +57,7 @@ entry-listed w =
     let a1 : q % 0x100 / 4 % 4 ≡ w / 0x40000 % 4 = ap1 q ∙ ap (λ (x : ℕ). x % 4) (above w .0) in
     let a2 : q % 0x100 / 16 % 4 ≡ w / 0x100000 % 4 = ap2 q ∙ ap (λ (x : ℕ). x % 4) (above w .1) in
     let a3 : q % 0x100 / 64 % 4 ≡ w / 0x400000 % 4 = ap3 q ∙ ap (λ (x : ℕ). x % 4) (above w .2) in
-    rw (bit0 w, b1, b2, ap0 q, a1, a2, a3)
+    rw (bit-low w, b1, b2, ap0 q, a1, a2, a3)
 
 -- two bits and what is above them
 low-is : (x a y : ℕ) → a < 4 → x ≡ a + 4 * y → (x % 4 ≡ a) × (x / 4 ≡ y)

@@ -8,7 +8,7 @@ use lib.Dec.{ltb}
 use lib.ListN.{length, getD, drop, set, length-append}
 use lib.Seq.{take-all, drop-length}
 use borrow.Author.Tests.{lt-ltb}
-use Rattle.values.proofs.Toward.{Toward, toward-step}
+use Rattle.values.proofs.Toward.{Toward, toward-step, toward-all}
 use Rattle.values.specs.Registers.{registersFrom, cp15From}
 use Rattle.values.specs.Counts.{countsFrom}
 use Rattle.values.specs.declared.Registers.{Registers}
@@ -143,6 +143,4 @@ pointer-step ns old l i room long h t =
 
 pub pointers-read : (ns old l : List ℕ) → 23 ≤ length ns → length old ≡ 16 → Toward (part ns 7 16) old l 16 → l ≡ part ns 7 16
 pointers-read ns old l room long t =
-    let m = t .long in
-    let k = ap length (part-cells 16 ns 7 (omega arith)) ∙ cells-long 16 ns 7 in
-    sym (take-all 16 l (omega arith)) ∙ t .front ∙ take-all 16 (part ns 7 16) (omega arith)
+    toward-all (part ns 7 16) old l 16 t long (ap length (part-cells 16 ns 7 (omega arith)) ∙ cells-long 16 ns 7)

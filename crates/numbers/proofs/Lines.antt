@@ -19,7 +19,7 @@ use Rattle.numbers.specs.Fields.{lineFrom}
 use Rattle.numbers.specs.Code.{cacheLine, part, Packs, LineHolds}
 use Rattle.cache.proofs.Words.{line-word}
 use Rattle.numbers.proofs.Each.{no-thing}
-use Rattle.numbers.proofs.Cells.{cells, part-cells, cells-long, fit-first, fit-rest, bit-back, number-back}
+use Rattle.numbers.proofs.Cells.{cells, part-cells, cells-long, fit-first, fit-rest, bit-back, bit-low, number-back}
 
 pub line-wide : length (cacheLine .places) ≡ 5
 unfolding linePlaces
@@ -28,16 +28,13 @@ line-wide = refl
 pub line-long : (l : Line) → length (cacheLine .numbers l) ≡ 5
 line-long l = refl
 
-bit0 : (w : ℕ) → number (bit w 0) ≡ w % 2
-bit0 w = bit-number w 0 ∙ omega arith
-
 -- the numbers of the line of a word, as the code has them
 pub line-listed : (w : ℕ) → w / 0x100000000 ∷ w / 8 % 0x20000000 ∷ w % 2 ∷ w / 2 % 2 ∷ w / 4 % 2 ∷ [] ≡ cacheLine .numbers (lineOf w)
 unfolding lineOf
 line-listed w =
     let b1 : number (bit w 1) ≡ w / 2 % 2 = bit-number w 1 in
     let b2 : number (bit w 2) ≡ w / 4 % 2 = bit-number w 2 in
-    rw (bit0 w, b1, b2)
+    rw (bit-low w, b1, b2)
 
 -- ---- numbers that fit
 

@@ -11,7 +11,7 @@ use lib.Seq.{take-all, take-at}
 use borrow.Author.Tests.{lt-ltb}
 use Rattle.values.specs.declared.Slot.{Slot}
 use Rattle.values.proofs.Cases.{clash}
-use Rattle.values.proofs.Toward.{Toward, toward-step}
+use Rattle.values.proofs.Toward.{Toward, toward-step, toward-all}
 use Rattle.buffer.specs.Packing.{slotOf, wordOf}
 use Rattle.buffer.proofs.Slots.{word-block, word-mask}
 use Rattle.form.specs.Form.{Field, word, fitIn, putIn}
@@ -165,10 +165,7 @@ low-step l at out i h t =
 
 pub low-filled : (l : List ℕ) (at : ℕ) (out : List ℕ) → at + 16 ≤ length l → Toward (lowCells l at) (replicate 16 0) out 16 → out ≡ lowBytes l at
 low-filled l at out room t =
-    let m = t .long in
-    let k = cells-long 16 l at in
-    let n = length-map (cells 16 l at) (λ (x : ℕ). x % 0x100) in
-    sym (take-all 16 out (omega arith)) ∙ t .front ∙ take-all 16 (lowCells l at) (omega arith)
+    toward-all (lowCells l at) (replicate 16 0) out 16 t refl (length-map (cells 16 l at) (λ (x : ℕ). x % 0x100) ∙ cells-long 16 l at)
     ∙ ap (λ (x : List ℕ). map (λ (y : ℕ). y % 0x100) x) (sym (part-cells 16 l at room))
 
 -- low bytes of numbers below 256 are these

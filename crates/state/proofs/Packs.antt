@@ -1,19 +1,13 @@
 -- The places of the write buffer, and their bytes by themselves.
 use Prim.Native.Nat.{ℕ, _+_, _<_}
 use native.Mathlib.Omega.{arith}
-use mathlib.Core.Path.{_≡_, refl, sym, _∙_, subst}
+use mathlib.Core.Path.{_≡_, refl, sym, subst}
 use mathlib.Core.List.{List, []}
 use lib.ListN.{length, length-map, getD, set, List·getD-map}
-use lib.Seq.{take-all}
 use Rattle.values.proofs.Toward.{Toward, toward-step}
 use Rattle.values.proofs.Maps.{map-set}
 use Rattle.state.specs.State.{bytesOf}
 use Rattle.state.specs.declared.SlotBytes.{SlotBytes}
-
--- the whole list has become the other
-pub toward-all : {A : Type 0} (target old now : List A) (n : ℕ) → Toward target old now n → length old ≡ n → length target ≡ n → now ≡ target
-toward-all target old now n t h k =
-    sym (take-all n now (let e = t .long in omega arith)) ∙ t .front ∙ take-all n target (omega arith)
 
 abbrev bytes : SlotBytes → List ℕ
 bytes s = s .bytes

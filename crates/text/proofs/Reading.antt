@@ -48,7 +48,8 @@ module _ (memory store text : List ℕ) where
     unfolding readBack readRefusal firstMet
     read-fourteen h = rw (e, h)
 
-    pub read-formed : (ns : List ℕ) → ns ≡ textNumbers text .numbers → textNumbers text .formed ≡ true → readNumbers memory store ns ≡ readBack memory store text
+    pub read-formed : (ns : List ℕ) → ns ≡ textNumbers text .numbers → textNumbers text .formed ≡ true
+        → readNumbers memory store ns ≡ readBack memory store text
     unfolding readBack readRefusal readNumbers firstMet
     read-formed ns q h = rw (q, e, h)
 

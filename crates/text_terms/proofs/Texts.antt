@@ -76,7 +76,8 @@ unfolding kind-of
 no-value a b q = let z : _≡_ {A = ℕ} 0 3 = ap kind-of q in absurd (omega arith)
 
 -- storing that is served says that nothing refuses, and its number is the text's length
-pub served-says : (m : Machine) (slice : List ℕ) (n : ℕ) → stored m slice .answer ≡ answer.Value n → (n ≡ length (textOf m)) × (storeRefusal m (length slice) ≡ 0)
+pub served-says : (m : Machine) (slice : List ℕ) (n : ℕ) → stored m slice .answer ≡ answer.Value n
+    → (n ≡ length (textOf m)) × (storeRefusal m (length slice) ≡ 0)
 unfolding stored
 served-says m slice n e =
     case (eqb (storeRefusal m (length slice)) 0)

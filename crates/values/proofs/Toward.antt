@@ -5,7 +5,7 @@ use native.Mathlib.Numerals.{add-one}
 use mathlib.Core.Path.{_≡_, refl, sym, _∙_, ap}
 use mathlib.Core.List.{List, [], _∷_, _++_}
 use lib.ListN.{length, getD, set, take, drop, length-set}
-use lib.Seq.{take-suc, take-suc-set, drop-set-lt, drop-drop}
+use lib.Seq.{take-all, take-suc, take-suc-set, drop-set-lt, drop-drop}
 
 pub record Toward {A : Type 0} (target old now : List A) (i : ℕ) : Type 0 where
   pub long : length now ≡ length old
@@ -29,3 +29,8 @@ module _ {A : Type 0} (target old : List A) where
             drop-set-lt (i + 1) now i a (omega arith) ∙ sym (drop-drop 1 i now) ∙ ap (λ (l : List A). drop 1 l) (t .back)
             ∙ drop-drop 1 i old;
       }
+
+-- the whole list has become the other
+pub toward-all : {A : Type 0} (target old now : List A) (n : ℕ) → Toward target old now n → length old ≡ n → length target ≡ n → now ≡ target
+toward-all target old now n t h k =
+    sym (take-all n now (let e = t .long in omega arith)) ∙ t .front ∙ take-all n target (omega arith)

@@ -42,7 +42,8 @@ loop-again : tie.Need-loop-again Inv-loop μ-loop
 loop-again c = let l = c .before .loop in
     let start = c .before .before in
     let a = start .args in
-    ending-on (now (a .separators)) (a .from) (a .lines) (a .fields) (l .separators) (l .at) (l .i) (l .inv) (c .loop-test .taken) (start .pre .0) (start .pre .1)
+    ending-on (now (a .separators)) (a .from) (a .lines) (a .fields) (l .separators) (l .at) (l .i) (l .inv) (c .loop-test .taken) (start .pre .0)
+    (start .pre .1)
 
 same-length : tie.Need-same-length Inv-loop μ-loop
 same-length c = c .before .loop .inv .long

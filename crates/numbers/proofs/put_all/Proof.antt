@@ -41,7 +41,8 @@ returns c = let after4 = c .before .before in
     let a = start .args in
     let lengths = start .pre .1 in
     all-laid (now (a .numbers)) _ _ _ _
-    (savedIn (a .cp15) (a .size) (a .counts) (a .used) (now (a .entries)) (now (a .lines)) (now (a .pointers)) (now (a .words)) (now (a .bytes))) (start .pre .0)
+    (savedIn (a .cp15) (a .size) (a .counts) (a .used) (now (a .entries)) (now (a .lines)) (now (a .pointers)) (now (a .words)) (now (a .bytes)))
+    (start .pre .0)
     (length-map (now (a .entries)) entryOf ∙ lengths .entries-long) (length-map (now (a .lines)) lineOf ∙ lengths .lines-long)
     (length-slots (now (a .words)) (now (a .bytes)) (lengths .words-long ∙ sym (lengths .bytes-long)) ∙ lengths .words-long)
     (after1 .put-head .ensures) (after2 .put-entries .ensures) (after3 .put-lines .ensures) (after4 .put-slots .ensures)

@@ -80,7 +80,8 @@ loop-again c = let after-put = c .before .before in
     let long = length-slots (now (a .words)) (now (a .bytes)) (start .pre .0) in
     let place = l .inv .1 in
     let room : l .at + 18 ≤ length (now (a .numbers)) = omega (arith, start .pre, low, place) in (
-      filling-on bufferLine 18 slot-long (now (a .numbers)) (a .from) (slotsOf (now (a .words)) (now (a .bytes))) (l .numbers) (l .at) (l .i) (l .inv .0) emptySlot _ _
+      filling-on bufferLine 18 slot-long (now (a .numbers)) (a .from) (slotsOf (now (a .words)) (now (a .bytes))) (l .numbers) (l .at) (l .i)
+          (l .inv .0) emptySlot _ _
           (omega (arith, low, long)) room
           (after-numbers .slot-numbers .ensures ∙ ap (λ (b : List ℕ). bufferLine .numbers (slotOf (getD (now (a .words)) (l .i) 0) b))
           (any-default (now (a .bytes)) (l .i) [] (replicate 16 0) (omega (arith, low, start .pre .0)))
@@ -97,7 +98,9 @@ same-length c = c .before .loop .inv .0 .long
 returns : tie.Need-returns Inv-loop μ-loop
 returns c = let l = c .before .loop in
     let a = c .before .before .before .before .args in
-    filling-end bufferLine 18 slot-long (now (a .numbers)) (a .from) (slotsOf (now (a .words)) (now (a .bytes))) (l .numbers) (l .at) (l .i) (l .inv .0) (let e = length-slots (now (a .words)) (now (a .bytes)) (c .before .before .before .before .pre .0) in let h = c .loop-test .left in omega (arith, e, h))
+    filling-end bufferLine 18 slot-long (now (a .numbers)) (a .from) (slotsOf (now (a .words)) (now (a .bytes))) (l .numbers) (l .at) (l .i)
+    (l .inv .0) (let e = length-slots (now (a .words)) (now (a .bytes))
+    (c .before .before .before .before .pre .0) in let h = c .loop-test .left in omega (arith, e, h))
 
 pub put-slots-spec : {M : Type 1} → statement M
 put-slots-spec =

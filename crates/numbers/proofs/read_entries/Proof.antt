@@ -22,7 +22,8 @@ use Rattle.numbers.proofs.read_entries.Statement.{statement}
 use Rattle.numbers.proofs.read_entries.Tie as tie
 
 abbrev Inv-loop : tie.InvT-loop
-Inv-loop numbers from entries₀ at₀ i₀ entries at i = Reading entryLine 11 entry-wide (length entries₀) numbers from (entriesOf entries₀) (entriesOf entries) at i × (length entries ≡ length entries₀)
+Inv-loop numbers from entries₀ at₀ i₀ entries at i = Reading entryLine 11 entry-wide (length entries₀) numbers from (entriesOf entries₀)
+    (entriesOf entries) at i × (length entries ≡ length entries₀)
 
 abbrev μ-loop : tie.MeasureT-loop
 μ-loop numbers from entries₀ at₀ i₀ entries at i = length entries₀ - i
@@ -205,7 +206,8 @@ returns c = let after-same = c .before in
     let n = length (now (a .entries)) in
     let is-low : l .i < n = omega (arith, low, long) in
     let room : l .at + 11 ≤ length (now (a .numbers)) = omega (arith, start .pre .0, is-low, place) in
-    reading-no entryLine 11 entry-wide n (now (a .numbers)) (a .from) (entriesOf (now (a .entries))) (entriesOf (l .entries)) (l .at) (l .i) (l .inv .0) InRange emptyEntry _
+    reading-no entryLine 11 entry-wide n (now (a .numbers)) (a .from) (entriesOf (now (a .entries))) (entriesOf (l .entries)) (l .at) (l .i)
+    (l .inv .0) InRange emptyEntry _
     is-low (entry-unread (now (a .numbers)) (l .at) w _ _ room (after-word .entry-word .ensures) (after-numbers .entry-numbers .ensures)
     (after-same .same .ensures .1) (c .if1 .left))
 
@@ -243,7 +245,8 @@ loop-again c = let after-same = c .before in
     let many : length nums ≡ 11 = ap length e ∙ entry-long (entryOf w) in (
       subst (λ (z : List Entry). Reading entryLine 11 entry-wide n (now (a .numbers)) (a .from) (entriesOf (now (a .entries))) z (l .at + 11) (l .i + 1))
           (sym (map-set entryOf (l .entries) (l .i) w))
-          (reading-on entryLine 11 entry-wide n (now (a .numbers)) (a .from) (entriesOf (now (a .entries))) (entriesOf (l .entries)) (l .at) (l .i) (l .inv .0) (entryOf w) emptyEntry nums
+          (reading-on entryLine 11 entry-wide n (now (a .numbers)) (a .from) (entriesOf (now (a .entries))) (entriesOf (l .entries)) (l .at) (l .i)
+          (l .inv .0) (entryOf w) emptyEntry nums
           is-low (length-map (now (a .entries)) entryOf)
           (ap (λ (k : ℕ). part (now (a .numbers)) (l .at) k) (sym many) ∙ after-same .same .ensures .0 (c .if1 .taken)) e
           (entry-back (entryOf w) (entry-good w wide)) (entry-fits (entryOf w) (entry-good w wide))),
@@ -258,7 +261,8 @@ same-length-2 c = c .before .loop .inv .1
 returns-2 : tie.Need-returns-2 Inv-loop μ-loop
 returns-2 c = let l = c .before .loop in
     let a = c .before .before .before .before .args in
-    reading-end entryLine 11 entry-wide (length (now (a .entries))) (now (a .numbers)) (a .from) (entriesOf (now (a .entries))) (entriesOf (l .entries)) (l .at) (l .i) (l .inv .0)
+    reading-end entryLine 11 entry-wide (length (now (a .entries))) (now (a .numbers)) (a .from) (entriesOf (now (a .entries))) (entriesOf
+    (l .entries)) (l .at) (l .i) (l .inv .0)
     InRange emptyEntry (let h = c .loop-test .left in let e = l .inv .1 in omega (arith, h, e)) (length-map (now (a .entries)) entryOf)
 
 pub read-entries-spec : {M : Type 1} → statement M

@@ -52,8 +52,11 @@ loop-less c = search needs
 loop-again : tie.Need-loop-again Inv-loop μ-loop
 loop-again c = let l = c .before .before .loop in
     let start = c .before .before .before .before .before in
-    let a = start .args in
-    (omega arith, pointer-step (now (a .numbers)) (now (a .pointers)) (l .pointers) (l .i) (omega (arith, start .pre .0)) (start .pre .1) (c .before .loop-test .taken) (l .inv .1))
+    let a = start .args in (
+      omega arith,
+      pointer-step (now (a .numbers)) (now (a .pointers)) (l .pointers) (l .i) (omega (arith, start .pre .0)) (start .pre .1)
+          (c .before .loop-test .taken) (l .inv .1),
+    )
 
 -- src/lib.rt:361:42
 shared-slice-read-registers-of : tie.Need-shared-slice-read-registers-of Inv-loop μ-loop
@@ -113,7 +116,8 @@ counts-of-requires c κs = search needs
 
 -- src/lib.rt:366:15
 shared-slice-read-t23 : tie.Need-shared-slice-read-t23 Inv-loop μ-loop
-shared-slice-read-t23 c = let long = c .before .before .before .before .before .before .before .before .before .before .before .before .before .before .before .before .before .before .before .pre .0 in
+shared-slice-read-t23 c = let long = c .before .before .before .before .before .before .before .before .before .before .before .before .before
+    .before .before .before .before .before .before .pre .0 in
     search (needs, long)
 
 -- src/lib.rt:366:15
@@ -122,7 +126,8 @@ cast-t31 c = let known = c .shared-slice-known14 .given 5 in search (needs, know
 
 -- src/lib.rt:367:15
 shared-slice-read-t17 : tie.Need-shared-slice-read-t17 Inv-loop μ-loop
-shared-slice-read-t17 c = let long = c .before .before .before .before .before .before .before .before .before .before .before .before .before .before .before .before .before .before .before .before .pre .0 in
+shared-slice-read-t17 c = let long = c .before .before .before .before .before .before .before .before .before .before .before .before .before
+    .before .before .before .before .before .before .before .pre .0 in
     search (needs, long)
 
 -- src/lib.rt:367:15
@@ -131,7 +136,8 @@ cast-t33 c = let known = c .shared-slice-known15 .given 23 in search (needs, kno
 
 -- src/lib.rt:351:1
 same-length : tie.Need-same-length Inv-loop μ-loop
-same-length c = let after-loop = c .before .before .before .before .before .before .before .before .before .before .before .before .before .before .before .before in
+same-length c = let after-loop = c .before .before .before .before .before .before .before .before .before .before .before .before .before .before
+    .before .before in
     after-loop .before .loop .inv .1 .long
 
 -- src/lib.rt:351:1

@@ -21,7 +21,8 @@ use Rattle.numbers.proofs.read_lines.Statement.{statement}
 use Rattle.numbers.proofs.read_lines.Tie as tie
 
 abbrev Inv-loop : tie.InvT-loop
-Inv-loop numbers from lines₀ at₀ i₀ lines at i = Reading cacheLine 5 line-wide (length lines₀) numbers from (linesOf lines₀) (linesOf lines) at i × (length lines ≡ length lines₀)
+Inv-loop numbers from lines₀ at₀ i₀ lines at i = Reading cacheLine 5 line-wide (length lines₀) numbers from (linesOf lines₀) (linesOf lines) at i ×
+    (length lines ≡ length lines₀)
 
 abbrev μ-loop : tie.MeasureT-loop
 μ-loop numbers from lines₀ at₀ i₀ lines at i = length lines₀ - i
@@ -132,7 +133,8 @@ returns c = let after-same = c .before in
     let n = length (now (a .lines)) in
     let is-low : l .i < n = omega (arith, low, long) in
     let room : l .at + 5 ≤ length (now (a .numbers)) = omega (arith, start .pre .0, is-low, place) in
-    reading-no cacheLine 5 line-wide n (now (a .numbers)) (a .from) (linesOf (now (a .lines))) (linesOf (l .lines)) (l .at) (l .i) (l .inv .0) LineHolds emptyLine _
+    reading-no cacheLine 5 line-wide n (now (a .numbers)) (a .from) (linesOf (now (a .lines))) (linesOf (l .lines)) (l .at) (l .i)
+    (l .inv .0) LineHolds emptyLine _
     is-low (line-unread (now (a .numbers)) (l .at) w _ _ room (after-word .line-word .ensures) (after-numbers .line-numbers .ensures)
     (after-same .same .ensures .1) (c .if1 .left))
 
@@ -170,7 +172,8 @@ loop-again c = let after-same = c .before in
     let many : length nums ≡ 5 = ap length e ∙ line-long (lineOf w) in (
       subst (λ (z : List Line). Reading cacheLine 5 line-wide n (now (a .numbers)) (a .from) (linesOf (now (a .lines))) z (l .at + 5) (l .i + 1))
           (sym (map-set lineOf (l .lines) (l .i) w))
-          (reading-on cacheLine 5 line-wide n (now (a .numbers)) (a .from) (linesOf (now (a .lines))) (linesOf (l .lines)) (l .at) (l .i) (l .inv .0) (lineOf w) emptyLine nums
+          (reading-on cacheLine 5 line-wide n (now (a .numbers)) (a .from) (linesOf (now (a .lines))) (linesOf (l .lines)) (l .at) (l .i)
+          (l .inv .0) (lineOf w) emptyLine nums
           is-low (length-map (now (a .lines)) lineOf)
           (ap (λ (k : ℕ). part (now (a .numbers)) (l .at) k) (sym many) ∙ after-same .same .ensures .0 (c .if1 .taken)) e
           (line-back (lineOf w)) (line-fits (lineOf w) (line-good w wide))),
@@ -185,7 +188,8 @@ same-length-2 c = c .before .loop .inv .1
 returns-2 : tie.Need-returns-2 Inv-loop μ-loop
 returns-2 c = let l = c .before .loop in
     let a = c .before .before .before .before .args in
-    reading-end cacheLine 5 line-wide (length (now (a .lines))) (now (a .numbers)) (a .from) (linesOf (now (a .lines))) (linesOf (l .lines)) (l .at) (l .i) (l .inv .0)
+    reading-end cacheLine 5 line-wide (length (now (a .lines))) (now (a .numbers)) (a .from) (linesOf (now (a .lines))) (linesOf (l .lines)) (l .at)
+    (l .i) (l .inv .0)
     LineHolds emptyLine (let h = c .loop-test .left in let e = l .inv .1 in omega (arith, h, e)) (length-map (now (a .lines)) lineOf)
 
 pub read-lines-spec : {M : Type 1} → statement M

@@ -19,7 +19,8 @@ use Rattle.numbers.proofs.read_slots.Statement.{statement}
 use Rattle.numbers.proofs.read_slots.Tie as tie
 
 abbrev Inv-loop : tie.InvT-loop
-Inv-loop numbers from words₀ bytes₀ at₀ i₀ words bytes at i = Reading bufferLine 18 slot-wide (length words₀) numbers from (slotsOf words₀ bytes₀) (slotsOf words bytes) at i
+Inv-loop numbers from words₀ bytes₀ at₀ i₀ words bytes at i = Reading bufferLine 18 slot-wide (length words₀) numbers from (slotsOf words₀ bytes₀)
+    (slotsOf words bytes) at i
     × (length words ≡ length words₀) × (length bytes ≡ length bytes₀)
 
 abbrev μ-loop : tie.MeasureT-loop
@@ -158,9 +159,11 @@ loop-again c = let after-same = c .before in
     let nums = after-numbers .slot-numbers .result in
     let good = slot-good (now (a .numbers)) (l .at) w b room (after-bytes .slot-bytes .ensures) wide in
     let many : length nums ≡ 18 = ap length e ∙ slot-long (slotOf w b) in (
-      subst (λ (z : List Slot). Reading bufferLine 18 slot-wide n (now (a .numbers)) (a .from) (slotsOf (now (a .words)) (now (a .bytes))) z (l .at + 18) (l .i + 1))
+      subst (λ (z : List Slot). Reading bufferLine 18 slot-wide n (now (a .numbers)) (a .from) (slotsOf (now (a .words)) (now (a .bytes))) z
+          (l .at + 18) (l .i + 1))
           (sym (slots-set (l .words) (l .bytes) (l .i) w b))
-          (reading-on bufferLine 18 slot-wide n (now (a .numbers)) (a .from) (slotsOf (now (a .words)) (now (a .bytes))) (slotsOf (l .words) (l .bytes)) (l .at) (l .i)
+          (reading-on bufferLine 18 slot-wide n (now (a .numbers)) (a .from) (slotsOf (now (a .words)) (now (a .bytes))) (slotsOf (l .words)
+          (l .bytes)) (l .at) (l .i)
           (l .inv .0) (slotOf w b) emptySlot nums is-low (length-slots (now (a .words)) (now (a .bytes)) (start .pre .0))
           (ap (λ (k : ℕ). part (now (a .numbers)) (l .at) k) (sym many) ∙ after-same .same .ensures .0 (c .if1 .taken)) e
           (slot-back (slotOf w b) good) (slot-fits (slotOf w b) good)),
@@ -183,7 +186,8 @@ returns-2 c = let l = c .before .loop in
     let a = start .args in
     reading-end bufferLine 18 slot-wide (length (now (a .words))) (now (a .numbers)) (a .from) (slotsOf (now (a .words)) (now (a .bytes)))
     (slotsOf (l .words) (l .bytes)) (l .at) (l .i) (l .inv .0)
-    SlotHolds emptySlot (let h = c .loop-test .left in let e = l .inv .1 in omega (arith, h, e)) (length-slots (now (a .words)) (now (a .bytes)) (start .pre .0))
+    SlotHolds emptySlot (let h = c .loop-test .left in let e = l .inv .1 in omega (arith, h, e)) (length-slots (now (a .words)) (now (a .bytes))
+    (start .pre .0))
 
 pub read-slots-spec : {M : Type 1} → statement M
 read-slots-spec =

@@ -74,7 +74,8 @@ returns c = let l = c .before .loop in
     let a = c .before .before .args in
     let n : length (a .t2) ≡ 16 = search needs in
     let e : l .i ≡ 16 = omega arith in
-    slot-array (l .out) (a .t2) _ _ (slot-filled (a .t2) (l .out) (subst (λ (k : ℕ). Toward (cells 16 (a .t2) 0 ++ 0 ∷ 0 ∷ []) (replicate 18 0) (l .out) k) e (l .inv .1)))
+    slot-array (l .out) (a .t2) _ _ (slot-filled (a .t2) (l .out) (subst (λ (k : ℕ). Toward (cells 16 (a .t2) 0 ++ 0 ∷ 0 ∷ []) (replicate 18 0)
+    (l .out) k) e (l .inv .1)))
     ∙ sym (slot-numbers-are (slotOf (a .w) (a .t2)))
 
 pub slot-numbers-spec : {M : Type 1} → statement M

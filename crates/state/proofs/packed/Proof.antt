@@ -4,8 +4,8 @@ use borrow.Author.Needs.{needs}
 use mathlib.Core.Path.{_≡_, refl, subst}
 use mathlib.Core.List.{List}
 use lib.ListN.{length, replicate}
-use Rattle.values.proofs.Toward.{Toward, toward-start}
-use Rattle.state.proofs.Packs.{toward-all, pack-step}
+use Rattle.values.proofs.Toward.{Toward, toward-start, toward-all}
+use Rattle.state.proofs.Packs.{pack-step}
 use Rattle.state.specs.State.{bytesOf}
 use Rattle.state.specs.declared.SlotBytes.{SlotBytes}
 use Rattle.state.proofs.packed.Statement.{statement}

@@ -3,8 +3,8 @@ use native.Mathlib.Omega.{arith}
 use borrow.Author.Needs.{needs}
 use mathlib.Core.Path.{_≡_, refl, _∙_, subst}
 use lib.ListN.{length, length-map, replicate}
-use Rattle.values.proofs.Toward.{Toward, toward-start}
-use Rattle.state.proofs.Packs.{toward-all, unpack-step}
+use Rattle.values.proofs.Toward.{Toward, toward-start, toward-all}
+use Rattle.state.proofs.Packs.{unpack-step}
 use Rattle.state.specs.State.{bytesOf}
 use Rattle.state.specs.declared.SlotBytes.{SlotBytes}
 use Rattle.state.proofs.unpacked.Statement.{statement}

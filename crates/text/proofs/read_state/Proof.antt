@@ -66,7 +66,8 @@ returns-3 c = let else2 = c .before in
     let r = after-restore .restore .ensures in
     λ m st e. let q = r .same (then1 .if1 .taken) m st in
     c .refused2 .ensures m st
-    ∙ read-three m st (now (a .ns)) (and-false (form .fits (now (a .ns))) (sound (machineWith m st (form .thing (now (a .ns))))) (ap sound (sym q) ∙ sym (after-sound .is-sound .ensures m st e) ∙ else2 .if2 .left))
+    ∙ read-three m st (now (a .ns)) (and-false (form .fits (now (a .ns))) (sound (machineWith m st (form .thing (now (a .ns))))) (ap sound
+    (sym q) ∙ sym (after-sound .is-sound .ensures m st e) ∙ else2 .if2 .left))
 
 -- src/lib.rt:176:5
 refused-requires-3 : tie.Need-refused-requires-3

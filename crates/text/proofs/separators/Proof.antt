@@ -56,7 +56,9 @@ end-lines-requires-4 c κs = let e3 = c .before .before .end-lines3 .ensures in
 
 -- src/lib.rt:23:1
 returns : tie.Need-returns
-returns c = separators-laid (replicate 3085 44) _ _ _ _ (commas-start .long) (c .before .before .before .before .before .before .before .before .before .before .end-lines .ensures) (c .before .before .before .before .before .before .before .end-lines2 .ensures)
+returns c = separators-laid (replicate 3085 44) _ _ _ _ (commas-start .long)
+    (c .before .before .before .before .before .before .before .before .before .before .end-lines .ensures)
+    (c .before .before .before .before .before .before .before .end-lines2 .ensures)
     (c .before .before .before .before .end-lines3 .ensures) (c .before .end-lines4 .ensures)
 
 pub separators-spec : {M : Type 1} → statement M

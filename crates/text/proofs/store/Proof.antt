@@ -20,7 +20,8 @@ state-refusal-requires c κs = search needs
 returns : tie.Need-returns
 returns c = let after-refusal = c .before in
     let a = after-refusal .before .before .before .args in
-    λ st. stored-refused (machineIn (now (a .memory)) st (a .state) (a .cp15)) (now (a .text)) _ (after-refusal .state-refusal .ensures (now (a .memory)) st refl)
+    λ st. stored-refused (machineIn (now (a .memory)) st (a .state) (a .cp15)) (now (a .text)) _ (after-refusal .state-refusal .ensures (now
+    (a .memory)) st refl)
     (c .if1 .taken)
 
 -- src/lib.rt:95:5

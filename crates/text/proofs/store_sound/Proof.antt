@@ -49,8 +49,12 @@ put-all-requires c κs = let after-unpacked = c .before .before .before .before 
     let e : length (s .entries) ≡ 32 = search (needs, good) in
     let ls : length (s .lines) ≡ 512 = sym (length-map (s .lines) (λ (w : ℕ). w)) ∙ good .1 .1 .1 .1 .1 .1 .0 .1 .0 .1 in
     let ps : length (s .pointers) ≡ 16 = sym (length-map (s .pointers) (λ (w : ℕ). w)) ∙ good .1 .1 .1 .1 .1 .1 .1 .0 .1 .0 .1 in
-    let ws : length (s .words) ≡ 8 = sym (length-map (s .words) (λ (w : ℕ). w)) ∙ good .1 .1 .1 .1 .1 .1 .1 .1 .0 .1 .0 .1 in
-    (refl, record { entries-long = e; lines-long = ls; pointers-long = ps; words-long = ws; bytes-long = after-unpacked .unpacked .ok .1 .0 .1 }, start .pre .0, start .pre .1)
+    let ws : length (s .words) ≡ 8 = sym (length-map (s .words) (λ (w : ℕ). w)) ∙ good .1 .1 .1 .1 .1 .1 .1 .1 .0 .1 .0 .1 in (
+      refl,
+      record { entries-long = e; lines-long = ls; pointers-long = ps; words-long = ws; bytes-long = after-unpacked .unpacked .ok .1 .0 .1 },
+      start .pre .0,
+      start .pre .1,
+    )
 
 -- src/lib.rt:76:32
 slice-aggregate-text-size : tie.Need-slice-aggregate-text-size
