@@ -63,6 +63,18 @@ over-all o xs h =
     let z : 0 + length xs ≡ length o = omega arith in
     ap (λ (j : ℕ). xs ++ drop j o) z ∙ ap (λ (l : List ℕ). xs ++ l) (drop-length o) ∙ append-nil xs
 
+-- four parts of the lengths that the kinds of lines have, laid one behind another over all of a list
+pub four-laid : (o p q r t a b c d : List ℕ) → length o ≡ 3085 → length a ≡ 29 → length b ≡ 352 → length c ≡ 2560 → length d ≡ 144
+    → p ≡ over o 0 a → q ≡ over p 29 b → r ≡ over q 381 c → t ≡ over r 2941 d → t ≡ a ++ (b ++ (c ++ d))
+four-laid o p q r t a b c d long al bl cl dl e f g h =
+    let x1 = over-after o p q a b 29 al (omega arith) e f in
+    let l1 = length-append a b in
+    let x2 = over-after o q r (a ++ b) c 381 (omega arith) (omega arith) x1 g in
+    let l2 = length-append (a ++ b) c in
+    let x3 = over-after o r t (a ++ b ++ c) d 2941 (omega arith) (omega arith) x2 h in
+    let l3 = length-append (a ++ b ++ c) d in
+    x3 ∙ over-all o (a ++ b ++ c ++ d) (omega arith) ∙ append-assoc (a ++ b) c d ∙ append-assoc a b (c ++ d)
+
 -- the three parts of the first line
 pub head-laid : (o p q r : List ℕ) (h : Head) → length o ≡ 3085 → length (h .pointers) ≡ 16 → p ≡ over o 0 (headFront h) → q ≡ over p 7 (h .pointers)
     → r ≡ over q 23 (headBack h) → r ≡ over o 0 (headLine .numbers h)

@@ -4,7 +4,7 @@ use native.Mathlib.Omega.{arith}
 use native.Mathlib.Nat.{add-comm, sub-zero, zero-mul, suc-mul}
 use mathlib.Core.Bool.{Bool, true, false, _&&_}
 use mathlib.Core.Path.{_≡_, refl, sym, _∙_, ap, subst}
-use mathlib.Core.List.{List, [], _∷_, _++_, append-assoc}
+use mathlib.Core.List.{List, [], _∷_, _++_}
 use lib.ListN.{length, getD, take, drop, length-append}
 use lib.Seq.{take-take, take-nil, drop-drop}
 use Rattle.values.specs.Empty.{emptyEntry, emptyLine, emptySlot}
@@ -18,7 +18,7 @@ use Rattle.form.specs.Form.{Form, pair, eachPlaces, eachNumbers, eachFits, each
 use Rattle.numbers.specs.Text.{Saved, form}
 use Rattle.numbers.specs.Code.{headLine, entryLine, cacheLine, bufferLine, LineHolds, SlotHolds, ThingsRead, AllRead}
 use Rattle.numbers.specs.Fields.{Head}
-use Rattle.numbers.proofs.Heads.{head-wide, head-long, over-after, over-all}
+use Rattle.numbers.proofs.Heads.{head-wide, head-long, four-laid}
 use Rattle.numbers.proofs.Entries.{entry-wide, entry-long}
 use Rattle.numbers.proofs.Lines.{line-wide, line-long}
 use Rattle.numbers.proofs.Slots.{slot-wide, slot-long}
@@ -154,16 +154,7 @@ all-laid o p q r t s long es ls ss e f g k =
     numbers-are bufferLine (λ x. slot-long x ∙ sym slot-wide) (s .rest .rest .rest) ∙ ap (λ (n : ℕ). n * length (bufferLine .places)) ss
     ∙ ap (λ (n : ℕ). 8 * n) slot-wide
     in
-    let a1 = over-after o p q H E 29 hl (omega arith) e f in
-    let l1 = length-append H E in
-    let a2 = over-after o q r (H ++ E) L 381 (omega arith) (omega arith) a1 g in
-    let l2 = length-append (H ++ E) L in
-    let a3 = over-after o r t (H ++ E ++ L) S 2941 (omega arith) (omega arith) a2 k in
-    let l3 = length-append (H ++ E ++ L) S in
-    a3 ∙ over-all o (H ++ E ++ L ++ S) (omega arith) ∙ regroup H E L S ∙ sym (form-numbers s)
-  where
-    regroup : (a b c d : List ℕ) → ((a ++ b) ++ c) ++ d ≡ a ++ (b ++ (c ++ d))
-    regroup a b c d = append-assoc (a ++ b) c d ∙ append-assoc a b (c ++ d)
+    four-laid o p q r t H E L S long hl el ll sl e f g k ∙ sym (form-numbers s)
 
 -- ---- all numbers read
 

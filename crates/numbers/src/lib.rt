@@ -126,7 +126,8 @@ pub fn put_lines(numbers: &mut [u32], from: usize, lines: &[u64])
 
 // The numbers of buffer entries, laid from a place on.
 pub fn put_slots(numbers: &mut [u32], from: usize, words: &[u64], bytes: &[[u8; 16]])
-    requires { ⌜ (length (now words) ≡ length (now bytes)) × (from + length (now words) * 18 ≤ length (now numbers)) × (length (now numbers) ≤ 0x10000) ⌝ }
+    requires { ⌜ (length (now words) ≡ length (now bytes)) × (from + length (now words) * 18 ≤ length (now numbers))
+        × (length (now numbers) ≤ 0x10000) ⌝ }
     ensures { λ r. ⌜ now (numbers .exit)
         ≡ over (now (numbers .entry)) from (eachNumbers code.bufferLine (slotsOf (now (words .entry)) (now (bytes .entry)))) ⌝ }
 {
@@ -257,7 +258,8 @@ fn slot_bytes(numbers: &[u32], at: usize) -> [u8; 16]
 
 // The words and bytes of the buffer entries whose numbers stand from a place on; false where a number does not fit.
 pub fn read_slots(numbers: &[u32], from: usize, words: &mut [u64], bytes: &mut [[u8; 16]]) -> bool
-    requires { ⌜ (length (now words) ≡ length (now bytes)) × (from + length (now words) * 18 ≤ length (now numbers)) × (length (now numbers) ≤ 0x10000) ⌝ }
+    requires { ⌜ (length (now words) ≡ length (now bytes)) × (from + length (now words) * 18 ≤ length (now numbers))
+        × (length (now numbers) ≤ 0x10000) ⌝ }
     ensures { λ r. ⌜ code.ThingsRead code.bufferLine code.SlotHolds emptySlot (length (now (words .entry))) (drop from (now (numbers .entry)))
         (slotsOf (now (words .exit)) (now (bytes .exit))) r ⌝ }
 {

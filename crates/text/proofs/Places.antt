@@ -3,7 +3,7 @@ use Prim.Native.Nat.{ℕ, zero, suc, _+_, _*_, _-_, _≤_}
 use native.Mathlib.Omega.{arith}
 use native.Mathlib.Nat.{add-comm, zero-mul, suc-mul, sub-zero}
 use mathlib.Core.Path.{_≡_, refl, sym, _∙_, ap, subst}
-use mathlib.Core.List.{List, [], _∷_, _++_, append-assoc, append-nil}
+use mathlib.Core.List.{List, [], _∷_, _++_, append-nil}
 use lib.ListN.{length, take, drop, replicate, length-append, length-replicate}
 use lib.Seq.{drop-at, drop-drop, length-take-le}
 use Rattle.printed.specs.Printed.{comma}
@@ -16,7 +16,7 @@ use Rattle.form.proofs.Back.{NoDigits, no-digits-append, separators-no-digits}
 use Rattle.numbers.specs.Fields.{setFields, byteFields}
 use Rattle.numbers.specs.Text.{form}
 use Rattle.numbers.specs.Code.{headLine, entryLine, cacheLine, bufferLine}
-use Rattle.numbers.proofs.Heads.{over-after, over-all}
+use Rattle.numbers.proofs.Heads.{four-laid}
 use Rattle.text.specs.Code.{separators}
 
 -- ---- how long they are
@@ -106,21 +106,7 @@ pub separators-laid : (o p q r t : List ℕ) → length o ≡ 3085 → p ≡ ove
     → r ≡ over q 381 (linesSeparators 512 5) → t ≡ over r 2941 (linesSeparators 8 18) → t ≡ separators
 unfolding separators
 separators-laid o p q r t long e f g h =
-    let A = linesSeparators 1 29 in
-    let B = linesSeparators 32 11 in
-    let C = linesSeparators 512 5 in
-    let D = linesSeparators 8 18 in
-    let a = long-1 in
-    let b = long-2 in
-    let c = long-3 in
-    let d = long-4 in
-    let x1 = over-after o p q A B 29 a (omega arith) e f in
-    let l1 = length-append A B in
-    let x2 = over-after o q r (A ++ B) C 381 (omega arith) (omega arith) x1 g in
-    let l2 = length-append (A ++ B) C in
-    let x3 = over-after o r t (A ++ B ++ C) D 2941 (omega arith) (omega arith) x2 h in
-    let l3 = length-append (A ++ B ++ C) D in
-    x3 ∙ over-all o (A ++ B ++ C ++ D) (omega arith) ∙ append-assoc (A ++ B) C D ∙ append-assoc A B (C ++ D)
+    four-laid o p q r t (linesSeparators 1 29) (linesSeparators 32 11) (linesSeparators 512 5) (linesSeparators 8 18) long long-1 long-2 long-3 long-4 e f g h
 
 -- ---- the places of the form
 

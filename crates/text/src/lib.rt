@@ -148,7 +148,8 @@ fn restore(ns: &[u32]) -> Restored
 // The state and the record of numbers, for a memory of n bytes, or refusal 3 or 4.
 fn read_state(ns: &[u32], n: usize) -> Started
     requires { ⌜ (length (now ns) ≡ 3085) × (n ≤ 0x1000000) ⌝ }
-    ensures { λ r. ⌜ ((memory store : List ℕ) → length memory ≡ n → startedOf memory store r ≡ code.readNumbers memory store (now (ns .entry))) ⌝ }
+    ensures { λ r. ⌜ ((memory store : List ℕ) → length memory ≡ n
+        → startedOf memory store r ≡ code.readNumbers memory store (now (ns .entry))) ⌝ }
 {
     let r = restore(ns);
     let state = r.state;
@@ -171,7 +172,8 @@ fn read_state(ns: &[u32], n: usize) -> Started
 
 // Reads a text back: the state and the record that it has, or refusal 1, 14, 3 or 4 with a state and a record all zeros.
 pub fn read(memory: &[u8], text: &[u8]) -> Started
-    ensures { λ r. ⌜ ((store : List ℕ) → startedOf (now (memory .entry)) store r ≡ reading.readBack (now (memory .entry)) store (now (text .entry))) ⌝ }
+    ensures { λ r. ⌜ ((store : List ℕ) → startedOf (now (memory .entry)) store r
+        ≡ reading.readBack (now (memory .entry)) store (now (text .entry))) ⌝ }
 {
     if refusals::length_fits(memory.len()) {
         let behind = separators();
