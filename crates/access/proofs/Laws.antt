@@ -19,7 +19,7 @@ use Rattle.access.specs.Access.{access, accessAt, passed}
 
 -- what the code decides is the machine's decision
 pub decision-is : (l : Lists) (es : List ℕ) (s : Scalars) (n : ℕ) (a : Access) (d : Decision)
-    → d ≡ decided (s .cp15 .registers) a (translation (entriesOf es) (s .cp15 .registers) (physical (l .memory)) (cleared a))
+    → d ≡ decided (s .cp15 .registers) a (translation (entriesOf es) (s .cp15 .registers) (physical (l .memory) (l .bad)) (cleared a))
     → d ≡ decision (machineOf l es s n) a
 unfolding decision
 decision-is l es s n a d e = e

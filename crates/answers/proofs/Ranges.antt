@@ -1,7 +1,7 @@
 -- Loads, CP15 reads and refusals answer numbers that their codes tell.
 use Prim.Native.Nat.{ℕ, _+_, _^_, _/_, _%_, _<_}
 use native.Mathlib.Omega.{arith}
-use mathlib.Core.Bool.{true}
+use mathlib.Core.Bool.{Bool, true, _||_}
 use mathlib.Core.Path.{_≡_, refl, sym, subst}
 use mathlib.Core.List.{List, [], _∷_}
 use lib.Dec.{eqb, ltb}
@@ -73,22 +73,26 @@ read-low r n h =
 
 -- ---- refusals
 
--- every row refuses by a number of at most 12
-abbrev UpToTwelve : List (Row ℕ) → Type 0
-UpToTwelve rows = all (λ (r : Row ℕ). ltb (r .gives) 13) rows ≡ true
+-- the numbers of refusals, and 0: those of document 01's list, and 16
+abbrev pub isNumber : ℕ → Bool
+isNumber n = ltb n 13 || eqb n 16
 
--- so does the first row met
-rows-low : (rows : List (Row ℕ)) → UpToTwelve rows → refusalIn rows < 13
+-- where every row refuses by such a number, so does the first row met
+rows-numbered : (rows : List (Row ℕ)) → all (λ (r : Row ℕ). isNumber (r .gives)) rows ≡ true → isNumber (refusalIn rows) ≡ true
 unfolding firstMet all
-rows-low [] h = omega arith
-rows-low (r ∷ rs) h =
-    let low = ltb-true (r .gives) 13 (and-left (ltb (r .gives) 13) (all (λ (x : Row ℕ). ltb (x .gives) 13) rs) h) in
-    let rest = rows-low rs (and-right (ltb (r .gives) 13) (all (λ (x : Row ℕ). ltb (x .gives) 13) rs) h) in
-    case (r .met) (λ t. rw t low) (λ t. rw t rest)
+rows-numbered [] h = refl
+rows-numbered (r ∷ rs) h =
+    let rest = all (λ (x : Row ℕ). isNumber (x .gives)) rs in
+    case (r .met) (λ t. rw t (and-left (isNumber (r .gives)) rest h)) (λ t. rw t (rows-numbered rs (and-right (isNumber (r .gives)) rest h)))
 
--- a refusal's number is at most 12
-pub refusal-low : (m : Machine) (c : Call) → refusal m c < 13
+pub refusal-numbered : (m : Machine) (c : Call) → isNumber (refusal m c) ≡ true
 unfolding refusal all
-refusal-low m (calls.Access a) = rows-low _ refl
-refusal-low m (Read t) = rows-low _ refl
-refusal-low m (Write t v) = rows-low _ refl
+refusal-numbered m (calls.Access a) = rows-numbered _ refl
+refusal-numbered m (Read t) = rows-numbered _ refl
+refusal-numbered m (Write t v) = rows-numbered _ refl
+
+-- a refusal's number is at most 16
+pub refusal-low : (m : Machine) (c : Call) → refusal m c < 17
+refusal-low m c =
+    let n = refusal m c in
+    or-cases (ltb n 13) (eqb n 16) (refusal-numbered m c) (λ t. let l = ltb-true n 13 t in omega arith) (λ t. let e = eqb-true n 16 t in omega arith)

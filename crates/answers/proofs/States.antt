@@ -46,19 +46,19 @@ slot-rows (x ∷ xs) (u ∷ us) p zero =
     rows-of (x .bytes ∷ []) (arrayVal (q .0) ∷ []) ((q .0, ((refl, e), bytes)), tt) 0
 slot-rows (x ∷ xs) (u ∷ us) p (suc i) = slot-rows xs us (p .1) i
 
-module _ (memory store : List ℕ) (s : State) (r : Cp15) where
+module _ (memory bad store : List ℕ) (s : State) (r : Cp15) where
   -- a state whose arrays are as long as their types say, with bytes below 256, has the shape of a machine where refusals 1 to 4 do not hold
   pub formed-in : length (s .entries) ≡ 32 → length (s .lines) ≡ 512 → length (s .pointers) ≡ 16 → length (s .words) ≡ 8 → length (s .slots) ≡ 8
       → ((i : ℕ) → Row (getD (bytesOf (s .slots)) i (replicate 16 0))) → Bytes memory → Bytes store
-      → stateRefusal (machineIn memory store s r) ≡ 0 → Formed (machineIn memory store s r)
+      → stateRefusal (machineIn memory bad store s r) ≡ 0 → Formed (machineIn memory bad store s r)
   formed-in e ls ps ws ss rows mb sb h =
-      let a = accepts (machineIn memory store s r) h in
-      formed-of (listsIn memory store s (bytesOf (s .slots))) (s .entries) (scalarsIn s r) (s .size) e ls ps (a .store) sb ws
+      let a = accepts (machineIn memory bad store s r) h in
+      formed-of (listsIn memory bad store s (bytesOf (s .slots))) (s .entries) (scalarsIn s r) (s .size) e ls ps (a .store) sb ws
       (length-map (s .slots) (λ (x : SlotBytes). x .bytes) ∙ ss) rows (a .whole) (a .short) mb
 
   -- the same of a value of the type `State`
   pub formed-typed : (vs : List Val) → Is state.the-row s vs → Bytes memory → Bytes store
-      → stateRefusal (machineIn memory store s r) ≡ 0 → Formed (machineIn memory store s r)
+      → stateRefusal (machineIn memory bad store s r) ≡ 0 → Formed (machineIn memory bad store s r)
   formed-typed vs p =
       let entries = p .1 .1 .1 .1 .1 .0 in
       let lines = p .1 .1 .1 .1 .1 .1 .0 in

@@ -84,7 +84,8 @@ done-told : (m : Machine) (c : Call) → Gets (m .side) → callRefusal c ≡ 0 
 unfolding faulted faultSet
 done-told m c g h =
     done-by (λ x. Formed (x .machine) → RegistersAre (x .machine .cp15 .registers) → Told (isSignedLoad c) (x .answer)) m c
-    (λ x y f r. answers-told (m .side) g x f r c h y) (λ t s d va f r. let low = r .fsr in omega arith)
+    (λ x y f r. answers-told (m .side) g x f r c h y) (λ t s d va k f r. let low = r .fsr in omega arith)
+    (λ a e t p q w f r. let low = r .fsr in omega arith)
 
 -- ---- a call
 

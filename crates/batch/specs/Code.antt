@@ -17,8 +17,8 @@ pub record Departed (before after : List ℕ) (at end line verdict : ℕ) : Type
   pub laid : Laid before after at end (stops verdict * 34) (printed line (cond (eqb verdict departing) refused13 []))
 
 -- lines replayed: the machine behind them, what was parsed, and what they print
-pub record Batched (m : Machine) (ends : Bool) (lines n : ℕ) (text out : List ℕ) (memory store after : List ℕ) (r : Batch) : Type 0 where
-  pub machine : machineIn memory store (r .state) (r .cp15) ≡ machineAfter m (parse ends n text)
+pub record Batched (m : Machine) (ends : Bool) (lines n : ℕ) (text out : List ℕ) (memory bad store after : List ℕ) (r : Batch) : Type 0 where
+  pub machine : machineIn memory bad store (r .state) (r .cp15) ≡ machineAfter m (parse ends n text)
   pub made : r .made ≡ parse ends n text .made
   pub end : r .end ≡ parse ends n text .end
   pub verdict : r .verdict ≡ parse ends n text .verdict

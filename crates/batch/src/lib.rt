@@ -37,6 +37,7 @@ pub fn replay_lines(
     state: State,
     cp15: Cp15,
     memory: &mut [u8],
+    bad: &[u8],
     store: &mut [u8],
     text: &[u8],
     ends: bool,
@@ -45,14 +46,23 @@ pub fn replay_lines(
     out: &mut [u8],
 ) -> Batch
     requires { ⌜ (n ≤ 1024) × (n * 34 ≤ length (now out)) × (lines ≤ spec.linesLimit) ⌝ }
-    ensures { λ r. ⌜ code.Batched (machineIn (now (memory .entry)) (now (store .entry)) state cp15) ends lines n (now (text .entry)) (now (out .entry))
-        (now (memory .exit)) (now (store .exit)) (now (out .exit)) r ⌝ }
+    ensures { λ r. ⌜ code.Batched (machineIn (now (memory .entry)) (now (bad .entry)) (now (store .entry)) state cp15) ends lines n (now (text .entry))
+        (now (out .entry))
+        (now (memory .exit)) (now (bad .entry)) (now (store .exit)) (now (out .exit)) r ⌝ }
 {
     let mut calls = [0u32; 5120];
     let mut answers = [0u64; 1024];
     let p = fields::parse(text, ends, &mut calls, n);
     let made = p.made;
-    let r = sa110::run(state, cp15, memory, store, &calls[..made * 5], &mut answers);
+    let r = sa110::run(
+        state,
+        cp15,
+        memory,
+        bad,
+        store,
+        &calls[..made * 5],
+        &mut answers,
+    );
     let after = r.state;
     let left = r.cp15;
     let written = printed::print(&calls, &answers, made, lines + 1, out);

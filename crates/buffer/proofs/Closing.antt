@@ -12,7 +12,7 @@ use Rattle.values.specs.Empty.{emptySlot}
 use Rattle.values.specs.declared.Slot.{Slot}
 use Rattle.values.proofs.Cases.{case}
 use Rattle.values.proofs.Toward.{Toward, toward-step}
-use Rattle.buffer.specs.Buffer.{Backing, laid, oldestLeft, behind, pushed, leaving, drained, holds, ready}
+use Rattle.buffer.specs.Buffer.{Backing, laid, goodMask, oldestLeft, behind, pushed, leaving, drained, holds, ready}
 use Rattle.buffer.specs.Packing.{slotOf, slotsOf, backingOf}
 use Rattle.buffer.specs.Ranges.{Fits, Left}
 use Rattle.buffer.proofs.Slots.{slot-at, slots-set, slots-drop, slots-append}
@@ -43,7 +43,7 @@ module _ {A : Type 0} (old now : List A) (i : ℕ) (t : Toward (drop 1 old) old 
 
 -- ---- the oldest entry leaves
 
-module _ (m ws : List ℕ) (bs : List (List ℕ)) (used : ℕ) (f : Fits m ws bs used) where
+module _ (m bad ws : List ℕ) (bs : List (List ℕ)) (used : ℕ) (f : Fits m ws bs used) where
   same-long : length ws ≡ length bs
   same-long = f .words-long ∙ sym (f .bytes-long)
 
@@ -70,12 +70,12 @@ module _ (m ws : List ℕ) (bs : List (List ℕ)) (used : ℕ) (f : Fits m ws bs
   word-behind i h = List·getD-append (drop 1 ws) (0 ∷ []) 0 i (omega (arith, long-words)) ∙ getD-drop 1 ws i 0
 
   pub oldest-left : 0 < used → (m′ : List ℕ) (w : ℕ) (b : List ℕ) → w ≡ getD ws 0 0 → b ≡ getD bs 0 (replicate 16 0)
-      → m′ ≡ laid m (w / 0x100000000 * 16) (w % 0x100000000) b
-      → Left m′ (drop 1 ws ++ (0 ∷ [])) (drop 1 bs ++ (replicate 16 0 ∷ [])) (used - 1) (oldestLeft (backingOf m ws bs used))
+      → m′ ≡ laid m (w / 0x100000000 * 16) (goodMask bad (w / 0x100000000) (w % 0x100000000)) b
+      → Left m′ bad (drop 1 ws ++ (0 ∷ [])) (drop 1 bs ++ (replicate 16 0 ∷ [])) (used - 1) (oldestLeft (backingOf m bad ws bs used))
   unfolding oldestLeft closed-words closed-bytes
   oldest-left h m′ w b ew eb em =
       let s : getD (slotsOf ws bs) 0 emptySlot ≡ slotOf w b = slot-at ws bs 0 same-long ∙ rw (ew, eb) in
-      let n : length m′ ≡ length m = ap length em ∙ length-laid b m (w / 0x100000000 * 16) (w % 0x100000000) in
+      let n : length m′ ≡ length m = ap length em ∙ length-laid b m (w / 0x100000000 * 16) (goodMask bad (w / 0x100000000) (w % 0x100000000)) in
       record {
         same = rw (s, closed-slots, em);
         fits = record {
@@ -89,7 +89,7 @@ module _ (m ws : List ℕ) (bs : List (List ℕ)) (used : ℕ) (f : Fits m ws bs
   -- ---- a new entry
 
   pub entered : (w : ℕ) (b : List ℕ) → used < 8 → w / 0x100000000 * 16 + 16 ≤ length m
-      → Left m (set ws used w) (set bs used b) (used + 1) (behind (backingOf m ws bs used) (slotOf w b))
+      → Left m bad (set ws used w) (set bs used b) (used + 1) (behind (backingOf m bad ws bs used) (slotOf w b))
   unfolding behind
   entered w b h k =
       record {
@@ -109,31 +109,32 @@ module _ (m ws : List ℕ) (bs : List (List ℕ)) (used : ℕ) (f : Fits m ws bs
       below i l e = omega arith
 
   pub pushed-in : (w : ℕ) (b : List ℕ) → used < 8 → w / 0x100000000 * 16 + 16 ≤ length m
-      → Left m (set ws used w) (set bs used b) (used + 1) (pushed (backingOf m ws bs used) (slotOf w b))
+      → Left m bad (set ws used w) (set bs used b) (used + 1) (pushed (backingOf m bad ws bs used) (slotOf w b))
   unfolding pushed
   pushed-in w b h k = rw (lt-ltb used 8 h) (entered w b h k)
 
 -- the buffer is full: the oldest has left, and the entry goes to the last place
-pub pushed-full : (m ws : List ℕ) (bs : List (List ℕ)) (used : ℕ) → used ≤ 8 → 8 ≤ used → (m′ ws′ : List ℕ) (bs′ : List (List ℕ))
-    → Left m′ ws′ bs′ (used - 1) (oldestLeft (backingOf m ws bs used)) → (w : ℕ) (b : List ℕ) → w / 0x100000000 * 16 + 16 ≤ length m′
-    → Left m′ (set ws′ 7 w) (set bs′ 7 b) 8 (pushed (backingOf m ws bs used) (slotOf w b))
+pub pushed-full : (m bad ws : List ℕ) (bs : List (List ℕ)) (used : ℕ) → used ≤ 8 → 8 ≤ used → (m′ ws′ : List ℕ) (bs′ : List (List ℕ))
+    → Left m′ bad ws′ bs′ (used - 1) (oldestLeft (backingOf m bad ws bs used)) → (w : ℕ) (b : List ℕ) → w / 0x100000000 * 16 + 16 ≤ length m′
+    → Left m′ bad (set ws′ 7 w) (set bs′ 7 b) 8 (pushed (backingOf m bad ws bs used) (slotOf w b))
 unfolding pushed
-pushed-full m ws bs used l h m′ ws′ bs′ o w b k =
+pushed-full m bad ws bs used l h m′ ws′ bs′ o w b k =
     let e : used - 1 ≡ 7 = omega arith in
-    let o′ : Left m′ ws′ bs′ 7 (oldestLeft (backingOf m ws bs used)) = subst (λ (n : ℕ). Left m′ ws′ bs′ n (oldestLeft (backingOf m ws bs used))) e o in
-    let r = entered m′ ws′ bs′ 7 (o′ .fits) w b (omega arith) k in
+    let o′ : Left m′ bad ws′ bs′ 7 (oldestLeft (backingOf m bad ws bs used)) = subst
+    (λ (n : ℕ). Left m′ bad ws′ bs′ n (oldestLeft (backingOf m bad ws bs used))) e o in
+    let r = entered m′ bad ws′ bs′ 7 (o′ .fits) w b (omega arith) k in
     rw (le-ltb used 8 h)
     (record { same = r .same ∙ ap (λ (x : Backing). behind x (slotOf w b)) (o′ .same); fits = r .fits })
 
 -- ---- a drain
 
 module _ (b₀ : Backing) (n : ℕ) where
-  pub drain-more : (m ws : List ℕ) (bs : List (List ℕ)) (k : ℕ) → 0 < k → (x : Backing) → x ≡ oldestLeft (backingOf m ws bs k)
-      → leaving k (backingOf m ws bs k) ≡ leaving n b₀ → leaving (k - 1) x ≡ leaving n b₀
+  pub drain-more : (m bad ws : List ℕ) (bs : List (List ℕ)) (k : ℕ) → 0 < k → (x : Backing) → x ≡ oldestLeft (backingOf m bad ws bs k)
+      → leaving k (backingOf m bad ws bs k) ≡ leaving n b₀ → leaving (k - 1) x ≡ leaving n b₀
   unfolding leaving
-  drain-more m ws bs k h x e g =
+  drain-more m bad ws bs k h x e g =
       let j : k ≡ suc (k - 1) = omega arith in
-      ap (leaving (k - 1)) e ∙ sym (ap (λ (i : ℕ). leaving i (backingOf m ws bs k)) j) ∙ g
+      ap (leaving (k - 1)) e ∙ sym (ap (λ (i : ℕ). leaving i (backingOf m bad ws bs k)) j) ∙ g
 
   pub drain-end : (x : Backing) (k : ℕ) → k ≤ 0 → leaving k x ≡ leaving n b₀ → x ≡ leaving n b₀
   unfolding leaving
@@ -141,13 +142,13 @@ module _ (b₀ : Backing) (n : ℕ) where
 
 -- ---- before a read
 
-module _ (m ws : List ℕ) (bs : List (List ℕ)) (used a n : ℕ) where
+module _ (m bad ws : List ℕ) (bs : List (List ℕ)) (used a n : ℕ) where
   pub ready-drained : holds (bufferFrom (slotsOf ws bs) used) a n ≡ true → (m′ ws′ : List ℕ) (bs′ : List (List ℕ)) (used′ : ℕ)
-      → Left m′ ws′ bs′ used′ (drained (backingOf m ws bs used)) → Left m′ ws′ bs′ used′ (ready (backingOf m ws bs used) a n)
+      → Left m′ bad ws′ bs′ used′ (drained (backingOf m bad ws bs used)) → Left m′ bad ws′ bs′ used′ (ready (backingOf m bad ws bs used) a n)
   unfolding ready
   ready-drained h m′ ws′ bs′ used′ l = rw h l
 
   pub ready-kept : holds (bufferFrom (slotsOf ws bs) used) a n ≡ false → Fits m ws bs used
-      → Left m ws bs used (ready (backingOf m ws bs used) a n)
+      → Left m bad ws bs used (ready (backingOf m bad ws bs used) a n)
   unfolding ready
   ready-kept h f = rw h (record { same = refl; fits = f })

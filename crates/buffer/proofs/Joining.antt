@@ -44,9 +44,9 @@ module _ (w k : ℕ) (h : k < 0x10000) where
       let z : k % 0x100000000 ≡ k = omega arith in
       or-mod w k 32 ∙ ap (λ (x : ℕ). bitOr (w % 0x100000000) x) z
 
-module _ (m ws : List ℕ) (bs : List (List ℕ)) (used : ℕ) (f : Fits m ws bs used) (pa : PhysicalAddress) (width v : ℕ) (st : Stores m pa width) where
+module _ (m bad ws : List ℕ) (bs : List (List ℕ)) (used : ℕ) (f : Fits m ws bs used) (pa : PhysicalAddress) (width v : ℕ) (st : Stores m pa width) where
   abbrev b : Backing
-  b = backingOf m ws bs used
+  b = backingOf m bad ws bs used
 
   abbrev found : Search
   found = newestOf (slotsOf ws bs) (blockOf pa) used
@@ -79,11 +79,11 @@ module _ (m ws : List ℕ) (bs : List (List ℕ)) (used : ℕ) (f : Fits m ws bs
           any-default bs i [] (replicate 16 0) in-bytes,
         )
 
-    pub joined-left : Left m (set ws i (bitOr (getD ws i 0) k)) (set bs i new) used (buffered b pa width v)
+    pub joined-left : Left m bad (set ws i (bitOr (getD ws i 0) k)) (set bs i new) used (buffered b pa width v)
     joined-left =
         record {
           same =
-              ap (λ (l : List Slot). (backingFrom m (bufferFrom l used)))
+              ap (λ (l : List Slot). (backingFrom m bad (bufferFrom l used)))
               (slots-set ws bs i (bitOr (getD ws i 0) k) new ∙ ap (λ (s : Slot). set (slotsOf ws bs) i s) slot-joined)
               ∙ by-search (At i) e;
           fits = record {
@@ -105,7 +105,7 @@ module _ (m ws : List ℕ) (bs : List (List ℕ)) (used : ℕ) (f : Fits m ws bs
     new-inside = rw (word-block (blockOf pa) k (omega arith)) (st .inside)
 
     pub new-left : (m′ ws′ : List ℕ) (bs′ : List (List ℕ)) (used′ : ℕ) (x : List ℕ) → x ≡ stored width (replicate 16 0) (pa .0 % 16) v
-        → Left m′ ws′ bs′ used′ (pushed b (slotOf (blockOf pa * 0x100000000 + k) x)) → Left m′ ws′ bs′ used′ (buffered b pa width v)
+        → Left m′ bad ws′ bs′ used′ (pushed b (slotOf (blockOf pa * 0x100000000 + k) x)) → Left m′ bad ws′ bs′ used′ (buffered b pa width v)
     new-left m′ ws′ bs′ used′ x ex l =
         let s : slotOf (blockOf pa * 0x100000000 + k) x ≡ newSlot (blockOf pa) width (pa .0 % 16) v = rw (
           word-block (blockOf pa) k (omega arith),
@@ -116,13 +116,13 @@ module _ (m ws : List ℕ) (bs : List (List ℕ)) (used : ℕ) (f : Fits m ws bs
         record { same = l .same ∙ ap (pushed b) s ∙ by-search Nothing e; fits = l .fits }
 
 -- a half
-pub half-left : (m ws : List ℕ) (bs : List (List ℕ)) (used block : ℕ) (x : List ℕ) (m′ ws′ : List ℕ) (bs′ : List (List ℕ)) (used′ : ℕ)
-    → Left m′ ws′ bs′ used′ (pushed (backingOf m ws bs used) (slotOf (block * 0x100000000 + 0xFFFF) x))
-    → Left m′ ws′ bs′ used′ (halfPushed (backingOf m ws bs used) block x)
+pub half-left : (m bad ws : List ℕ) (bs : List (List ℕ)) (used block : ℕ) (x : List ℕ) (m′ ws′ : List ℕ) (bs′ : List (List ℕ)) (used′ : ℕ)
+    → Left m′ bad ws′ bs′ used′ (pushed (backingOf m bad ws bs used) (slotOf (block * 0x100000000 + 0xFFFF) x))
+    → Left m′ bad ws′ bs′ used′ (halfPushed (backingOf m bad ws bs used) block x)
 unfolding halfPushed
-half-left m ws bs used block x m′ ws′ bs′ used′ l =
+half-left m bad ws bs used block x m′ ws′ bs′ used′ l =
     let s : slotOf (block * 0x100000000 + 0xFFFF) x ≡ record { block = block; mask = 0xFFFF; bytes = x } = rw (
       word-block block 0xFFFF (omega arith),
       word-mask block 0xFFFF (omega arith),
     ) in
-    record { same = l .same ∙ ap (pushed (backingOf m ws bs used)) s; fits = l .fits }
+    record { same = l .same ∙ ap (pushed (backingOf m bad ws bs used)) s; fits = l .fits }

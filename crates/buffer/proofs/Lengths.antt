@@ -20,6 +20,7 @@ use Rattle.buffer.specs.Buffer.{
   Buffer,
   Backing,
   slotAt,
+  goodMask,
   oldestLeft,
   leaving,
   drained,
@@ -41,7 +42,7 @@ use Rattle.buffer.proofs.Laying.{length-laid}
 -- the oldest entry leaves
 pub memory-oldest : (b : Backing) → length (oldestLeft b .memory) ≡ length (b .memory)
 unfolding oldestLeft
-memory-oldest b = let s = slotAt (b .buffer) 0 in length-laid (s .bytes) (b .memory) (s .block * 16) (s .mask)
+memory-oldest b = let s = slotAt (b .buffer) 0 in length-laid (s .bytes) (b .memory) (s .block * 16) (goodMask (b .bad) (s .block) (s .mask))
 
 -- n entries leave
 pub memory-leaving : (n : ℕ) (b : Backing) → length (leaving n b .memory) ≡ length (b .memory)
@@ -87,6 +88,49 @@ pub memory-buffered : (b : Backing) (pa : PhysicalAddress) (width v : ℕ) → l
 unfolding buffered
 memory-buffered b pa width v =
     memory-stored b (blockOf pa) width (pa .0 % 16) v (newestOf (b .buffer .slots) (blockOf pa) (b .buffer .used))
+
+-- ---- the map stays
+
+pub bad-oldest : (b : Backing) → oldestLeft b .bad ≡ b .bad
+unfolding oldestLeft
+bad-oldest b = refl
+
+pub bad-leaving : (n : ℕ) (b : Backing) → leaving n b .bad ≡ b .bad
+unfolding leaving
+bad-leaving zero b = refl
+bad-leaving (suc n) b = bad-leaving n (oldestLeft b) ∙ bad-oldest b
+
+pub bad-drained : (b : Backing) → drained b .bad ≡ b .bad
+unfolding drained
+bad-drained b = bad-leaving (b .buffer .used) b
+
+pub bad-ready : (b : Backing) (a n : ℕ) → ready b a n .bad ≡ b .bad
+unfolding ready
+bad-ready b a n = case (holds (b .buffer) a n) (λ t. rw t (bad-drained b)) (λ t. rw t)
+
+pub bad-behind : (b : Backing) (s : Slot) → behind b s .bad ≡ b .bad
+unfolding behind
+bad-behind b s = refl
+
+pub bad-pushed : (b : Backing) (s : Slot) → pushed b s .bad ≡ b .bad
+unfolding pushed
+bad-pushed b s =
+    case (ltb (b .buffer .used) 8)
+    (λ t. rw t (bad-behind b s))
+    (λ t. rw t (bad-behind (oldestLeft b) s ∙ bad-oldest b))
+
+pub bad-half : (b : Backing) (block : ℕ) (bytes : List ℕ) → halfPushed b block bytes .bad ≡ b .bad
+unfolding halfPushed
+bad-half b block bytes = bad-pushed b (record { block = block; mask = 0xFFFF; bytes = bytes })
+
+bad-stored : (b : Backing) (block width offset v : ℕ) (x : Search) → storedAt b block width offset v x .bad ≡ b .bad
+bad-stored b block width offset v (At i) = refl
+bad-stored b block width offset v Nothing = bad-pushed b (newSlot block width offset v)
+
+pub bad-buffered : (b : Backing) (pa : PhysicalAddress) (width v : ℕ) → buffered b pa width v .bad ≡ b .bad
+unfolding buffered
+bad-buffered b pa width v =
+    bad-stored b (blockOf pa) width (pa .0 % 16) v (newestOf (b .buffer .slots) (blockOf pa) (b .buffer .used))
 
 -- ---- each place, and the number of entries
 

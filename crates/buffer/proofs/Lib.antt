@@ -5,6 +5,7 @@ pub mod Closing
 pub mod Meeting
 pub mod Joining
 pub mod Holding
+pub mod GoodMask
 pub mod Below
 pub mod StoredBelow
 pub mod Lengths

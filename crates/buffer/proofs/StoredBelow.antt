@@ -2,7 +2,7 @@
 use Prim.Native.Nat.{ℕ, zero, suc, _+_, _-_, _*_, _/_, _%_, _^_, _<_, _≤_}
 use native.Mathlib.Omega.{arith}
 use native.Mathlib.Nat.{zero-add, mul-one, mul-assoc, pow-suc, zero-div}
-use mathlib.Core.Bool.{Bool, true, false, cond, _&&_, _||_}
+use mathlib.Core.Bool.{Bool, true, false, cond, _||_}
 use mathlib.Core.Path.{_≡_, refl, sym, _∙_, ap, subst}
 use mathlib.Core.List.{List, [], _∷_, _++_}
 use lib.Bits.{bitOr, or-shr, or-mod}
@@ -21,8 +21,10 @@ use Rattle.values.specs.declared.Search.the-variants.{At, Nothing}
 use Rattle.values.proofs.Cases.{case}
 use Rattle.words.specs.Words.{stored}
 use Rattle.words.proofs.Laws.{byte-before, byte-behind, byte-in}
+use Rattle.bus.specs.Physical.{isBad}
 use Rattle.buffer.specs.Buffer.{masks, oldestLeft, leaving, pushed, halfPushed, newestOf, maskOf, joined, newSlot, storedAt, buffered}
-use Rattle.buffer.proofs.Below.{over, below, over-append, empty-masks, half-bit, Behind, behind-below, Good, with-slots, leaving-below}
+use Rattle.buffer.proofs.Below.{lands, over, below, unmasked-lands, over-append, empty-masks, half-bit, Behind, behind-below}
+use Rattle.buffer.proofs.Below.{Good, with-slots, leaving-below}
 use Rattle.buffer.proofs.Joining.{newest-below}
 
 -- ---- bits of a mask
@@ -111,17 +113,20 @@ mask-behind w o k h =
 -- ---- a store that joins an entry
 
 -- the byte that an entry leaves over x
-abbrev pub laidOver : Slot → ℕ → ℕ → ℕ
-laidOver s p x = cond (masks s p) (getD (s .bytes) (p % 16) 0) x
+abbrev pub laidOver : List ℕ → Slot → ℕ → ℕ → ℕ
+laidOver bad s p x = cond (lands bad s p) (getD (s .bytes) (p % 16) 0) x
 
 -- joined, an entry holds the bytes of the store over its own
-pub joined-over : (s : Slot) (w o v p x : ℕ) → length (s .bytes) ≡ 16 → o + w ≤ 16
-    → laidOver (joined s w o v) p x ≡ laidOver (newSlot (s .block) w o v) p (laidOver s p x)
+pub joined-over : (bad : List ℕ) (s : Slot) (w o v p x : ℕ) → length (s .bytes) ≡ 16 → o + w ≤ 16
+    → laidOver bad (joined s w o v) p x ≡ laidOver bad (newSlot (s .block) w o v) p (laidOver bad s p x)
 unfolding joined
-joined-over s w o v p x n h =
+joined-over bad s w o v p x n h =
+    case (isBad bad (p / 4))
+    (λ g. rw g)
+    (λ g.
     case (eqb (p / 16) (s .block))
-    (λ t. rw (t, or-bit (s .mask) (maskOf w o) (p % 16)) (here (p % 16)))
-    (λ t. rw t)
+    (λ t. rw (g, t, or-bit (s .mask) (maskOf w o) (p % 16)) (here (p % 16)))
+    (λ t. rw (g, t)))
   where
     here : (k : ℕ) → cond (bit (s .mask) k || bit (maskOf w o) k) (getD (stored w (s .bytes) o v) k 0) x
         ≡ cond (bit (maskOf w o) k) (getD (stored w (replicate 16 0) o v) k 0) (cond (bit (s .mask) k) (getD (s .bytes) k 0) x)
@@ -155,9 +160,9 @@ joined-over s w o v p x n h =
         or-true false y = refl
 
 -- over bytes, a new entry of a store gives what the store to them gives
-pub as-stored : (m : List ℕ) (pa w v p : ℕ) → pa % 16 + w ≤ 16 → pa + w ≤ length m
-    → laidOver (newSlot (pa / 16) w (pa % 16) v) p (getD m p 0) ≡ getD (stored w m pa v) p 0
-as-stored m pa w v p h k =
+pub as-stored : (bad m : List ℕ) (pa w v p : ℕ) → pa % 16 + w ≤ 16 → pa + w ≤ length m → (pa ≤ p → p < pa + w → isBad bad (p / 4) ≡ false)
+    → laidOver bad (newSlot (pa / 16) w (pa % 16) v) p (getD m p 0) ≡ getD (stored w m pa v) p 0
+as-stored bad m pa w v p h k good =
     case (ltb p pa)
     (λ t. let q = ltb-true p pa t in outside (before q) ∙ sym (byte-before w m pa v p q))
     (λ t.
@@ -168,14 +173,14 @@ as-stored m pa w v p h k =
     let e : p / 16 ≡ pa / 16 = omega arith in
     let i : pa % 16 + (p - pa) ≡ p % 16 = omega arith in
     let j : pa + (p - pa) ≡ p = omega arith in
-    rw (eq-eqb (p / 16) (pa / 16) e, mask-in w (pa % 16) (p % 16) (omega arith) (omega arith))
+    rw (good q r, eq-eqb (p / 16) (pa / 16) e, mask-in w (pa % 16) (p % 16) (omega arith) (omega arith))
     (ap (λ (x : ℕ). getD (stored w (replicate 16 0) (pa % 16) v) x 0) (sym i)
     ∙ byte-in w (replicate 16 0) m (pa % 16) pa v (p - pa) (omega arith) h k
     ∙ ap (λ (x : ℕ). getD (stored w m pa v) x 0) j))
     (λ u. let r = ltb-false p (pa + w) u in outside (after r) ∙ sym (byte-behind w m pa v p r)))
   where
-    outside : masks (newSlot (pa / 16) w (pa % 16) v) p ≡ false → laidOver (newSlot (pa / 16) w (pa % 16) v) p (getD m p 0) ≡ getD m p 0
-    outside e = rw e
+    outside : masks (newSlot (pa / 16) w (pa % 16) v) p ≡ false → laidOver bad (newSlot (pa / 16) w (pa % 16) v) p (getD m p 0) ≡ getD m p 0
+    outside e = rw (unmasked-lands bad (newSlot (pa / 16) w (pa % 16) v) p e)
 
     before : p < pa → masks (newSlot (pa / 16) w (pa % 16) v) p ≡ false
     before q =
@@ -217,16 +222,16 @@ newest-block slots block (suc n) i e =
     (λ t. newest-block slots block n i (rw t at e))
 
 -- entries of which none masks the byte
-pub over-away : (l : List Slot) (p z : ℕ) → ((j : ℕ) → j < length l → masks (getD l j emptySlot) p ≡ false) → over l p z ≡ z
+pub over-away : (bad : List ℕ) (l : List Slot) (p z : ℕ) → ((j : ℕ) → j < length l → masks (getD l j emptySlot) p ≡ false) → over bad l p z ≡ z
 unfolding over
-over-away [] p z f = refl
-over-away (s ∷ ss) p z f =
-    let e : masks s p ≡ false = f 0 (omega arith) in
-    ap (λ (b : Bool). over ss p (cond b (getD (s .bytes) (p % 16) 0) z)) e ∙ over-away ss p z (λ j h. f (suc j) (omega arith))
+over-away bad [] p z f = refl
+over-away bad (s ∷ ss) p z f =
+    let e : lands bad s p ≡ false = unmasked-lands bad s p (f 0 (omega arith)) in
+    ap (λ (b : Bool). over bad ss p (cond b (getD (s .bytes) (p % 16) 0) z)) e ∙ over-away bad ss p z (λ j h. f (suc j) (omega arith))
 
-through : (s : Slot) (ts hs : List Slot) (p x : ℕ) → over (hs ++ s ∷ ts) p x ≡ over ts p (laidOver s p (over hs p x))
+through : (bad : List ℕ) (s : Slot) (ts hs : List Slot) (p x : ℕ) → over bad (hs ++ s ∷ ts) p x ≡ over bad ts p (laidOver bad s p (over bad hs p x))
 unfolding over
-through s ts hs p x = over-append hs (s ∷ ts) p x
+through bad s ts hs p x = over-append bad hs (s ∷ ts) p x
 
 getD-out : {A : Type 0} (l : List A) (k : ℕ) (d : A) → length l ≤ k → getD l k d ≡ d
 getD-out [] k d h = refl
@@ -242,7 +247,7 @@ place-empty l used k e h f =
 
 -- ---- "a store joins the newest entry of the same block": exactly the bytes masked in change
 
-module _ (m : List ℕ) (l : List Slot) (used block w o v i : ℕ) (e : newestOf l block used ≡ At i) (low : used ≤ length l) (rest : Behind l used)
+module _ (m bad : List ℕ) (l : List Slot) (used block w o v i : ℕ) (e : newestOf l block used ≡ At i) (low : used ≤ length l) (rest : Behind l used)
     (n : length (getD l i emptySlot .bytes) ≡ 16) (h : o + w ≤ 16) where
   found : i < used
   found = newest-below l block used i e
@@ -266,39 +271,41 @@ module _ (m : List ℕ) (l : List Slot) (used block w o v i : ℕ) (e : newestOf
           (λ t. let r : s .block ≡ block = sym (eqb-true (p / 16) (s .block) t) ∙ q in absurd (eqb-false (s .block) block f r))
           (λ t. rw t)
 
-  pub joined-below : (p : ℕ) → below (storedAt (with-slots m l used) block w o v (At i)) p ≡ laidOver (newSlot block w o v) p (below (with-slots m l used) p)
+  pub joined-below : (p : ℕ) → below (storedAt (with-slots m bad l used) block w o v (At i)) p
+      ≡ laidOver bad (newSlot block w o v) p (below (with-slots m bad l used) p)
   joined-below p =
       let s = getD l i emptySlot in
       let at = found in
       let x = getD m p 0 in
-      let y = over (take i l) p x in
+      let y = over bad (take i l) p x in
       let ts = drop (suc i) l in
       let eb : s .block ≡ block = newest-block l block used i e in
-      let old : over l p x ≡ over ts p (laidOver s p y) = ap (λ (r : List Slot). over r p x) (split-at l i emptySlot (omega arith))
-      ∙ through s ts (take i l) p x in
-      ap (λ (r : List Slot). over r p x) (set-split l i (joined s w o v) (omega arith)) ∙ through (joined s w o v) ts (take i l) p x
-      ∙ ap (λ (z : ℕ). over ts p z) (joined-over s w o v p y n h)
-      ∙ ap (λ (k : ℕ). over ts p (laidOver (newSlot k w o v) p (laidOver s p y))) eb
-      ∙ past (laidOver s p y)
-      ∙ ap (λ (z : ℕ). laidOver (newSlot block w o v) p z) (sym old)
+      let old : over bad l p x ≡ over bad ts p (laidOver bad s p y) = ap (λ (r : List Slot). over bad r p x) (split-at l i emptySlot (omega arith))
+      ∙ through bad s ts (take i l) p x in
+      ap (λ (r : List Slot). over bad r p x) (set-split l i (joined s w o v) (omega arith)) ∙ through bad (joined s w o v) ts (take i l) p x
+      ∙ ap (λ (z : ℕ). over bad ts p z) (joined-over bad s w o v p y n h)
+      ∙ ap (λ (k : ℕ). over bad ts p (laidOver bad (newSlot k w o v) p (laidOver bad s p y))) eb
+      ∙ past (laidOver bad s p y)
+      ∙ ap (λ (z : ℕ). laidOver bad (newSlot block w o v) p z) (sym old)
     where
-      past : (z : ℕ) → over (drop (suc i) l) p (laidOver (newSlot block w o v) p z) ≡ laidOver (newSlot block w o v) p (over (drop (suc i) l) p z)
+      past : (z : ℕ) → over bad (drop (suc i) l) p (laidOver bad (newSlot block w o v) p z)
+          ≡ laidOver bad (newSlot block w o v) p (over bad (drop (suc i) l) p z)
       past z =
           case (eqb (p / 16) block)
           (λ t.
           let f = later p (eqb-true (p / 16) block t) in
-          over-away (drop (suc i) l) p (laidOver (newSlot block w o v) p z) f
-          ∙ ap (λ (u : ℕ). laidOver (newSlot block w o v) p u) (sym (over-away (drop (suc i) l) p z f)))
-          (λ t. rw t)
+          over-away bad (drop (suc i) l) p (laidOver bad (newSlot block w o v) p z) f
+          ∙ ap (λ (u : ℕ). laidOver bad (newSlot block w o v) p u) (sym (over-away bad (drop (suc i) l) p z f)))
+          (λ t. let f = unmasked-lands bad (newSlot block w o v) p (rw t) in rw f)
 
 -- ---- a new entry, and the oldest leaving for it: exactly the bytes masked in change
 
 -- the oldest entry leaves, and one more place is empty
-oldest-behind : (m : List ℕ) (l : List Slot) (used : ℕ) → 0 < used → used ≤ length l → Behind l used
-    → Behind (oldestLeft (with-slots m l used) .buffer .slots) (used - 1)
+oldest-behind : (m bad : List ℕ) (l : List Slot) (used : ℕ) → 0 < used → used ≤ length l → Behind l used
+    → Behind (oldestLeft (with-slots m bad l used) .buffer .slots) (used - 1)
 unfolding oldestLeft
-oldest-behind m [] used h k e = absurd (omega arith)
-oldest-behind m (s ∷ ss) used h k e =
+oldest-behind m bad [] used h k e = absurd (omega arith)
+oldest-behind m bad (s ∷ ss) used h k e =
     let q : used ≡ suc (used - 1) = omega arith in
     let n : length (ss ++ (emptySlot ∷ [])) ≡ length ss + 1 = length-append ss (emptySlot ∷ []) in
     let f : drop (used - 1) ss ≡ replicate (suc (length ss) - used) emptySlot = ap (λ (j : ℕ). drop j (s ∷ ss)) (sym q) ∙ e in
@@ -307,14 +314,14 @@ oldest-behind m (s ∷ ss) used h k e =
     ∙ replicate-append-replicate (suc (length ss) - used) 1 emptySlot ∙ ap (λ (j : ℕ). replicate j emptySlot) c
 
 -- the number of places stays
-oldest-long : (m : List ℕ) (l : List Slot) (used : ℕ) → 0 < length l → length (oldestLeft (with-slots m l used) .buffer .slots) ≡ length l
+oldest-long : (m bad : List ℕ) (l : List Slot) (used : ℕ) → 0 < length l → length (oldestLeft (with-slots m bad l used) .buffer .slots) ≡ length l
 unfolding oldestLeft
-oldest-long m [] used h = absurd (omega arith)
-oldest-long m (s ∷ ss) used h = let n = length-append ss (emptySlot ∷ []) in let q : length ss + 1 ≡ suc (length ss) = omega arith in n ∙ q
+oldest-long m bad [] used h = absurd (omega arith)
+oldest-long m bad (s ∷ ss) used h = let n = length-append ss (emptySlot ∷ []) in let q : length ss + 1 ≡ suc (length ss) = omega arith in n ∙ q
 
-oldest-used : (m : List ℕ) (l : List Slot) (used : ℕ) → oldestLeft (with-slots m l used) .buffer .used ≡ used - 1
+oldest-used : (m bad : List ℕ) (l : List Slot) (used : ℕ) → oldestLeft (with-slots m bad l used) .buffer .used ≡ used - 1
 unfolding oldestLeft
-oldest-used m l used = refl
+oldest-used m bad l used = refl
 
 good-first : (used long : ℕ) (l : List Slot) → 0 < used → Good used long l → Good 1 long l
 unfolding Good
@@ -322,10 +329,10 @@ good-first zero long l h g = absurd (omega arith)
 good-first (suc n) long [] h g = absurd g
 good-first (suc n) long (s ∷ ss) h g = (g .0, g .1, tt)
 
-oldest-same : (m : List ℕ) (l : List Slot) (used p : ℕ) → 0 < used → Good used (length m) l
-    → below (oldestLeft (with-slots m l used)) p ≡ below (with-slots m l used) p
+oldest-same : (m bad : List ℕ) (l : List Slot) (used p : ℕ) → 0 < used → Good used (length m) l
+    → below (oldestLeft (with-slots m bad l used)) p ≡ below (with-slots m bad l used) p
 unfolding leaving
-oldest-same m l used p h g = leaving-below 1 m l used p (good-first used (length m) l h g)
+oldest-same m bad l used p h g = leaving-below 1 m bad l used p (good-first used (length m) l h g)
 
 bytes-long : (n : ℕ) (l : List Slot) (i long : ℕ) → i < n → Good n long l → length (getD l i emptySlot .bytes) ≡ 16
 unfolding Good
@@ -334,45 +341,44 @@ bytes-long (suc n) [] i long h g = absurd g
 bytes-long (suc n) (s ∷ ss) zero long h g = g .0
 bytes-long (suc n) (s ∷ ss) (suc i) long h g = bytes-long n ss i long (omega arith) (g .2)
 
-module _ (m : List ℕ) (l : List Slot) (used : ℕ) (eight : length l ≡ 8) (low : used ≤ 8) (rest : Behind l used) (good : Good used (length m) l) where
-  pub pushed-below : (s : Slot) (p : ℕ) → below (pushed (with-slots m l used) s) p ≡ laidOver s p (below (with-slots m l used) p)
-  unfolding pushed
+module _ (m bad : List ℕ) (l : List Slot) (used : ℕ) (eight : length l ≡ 8) (low : used ≤ 8) (rest : Behind l used) (good : Good used (length m) l) where
+  pub pushed-below : (s : Slot) (p : ℕ) → below (pushed (with-slots m bad l used) s) p ≡ laidOver bad s p (below (with-slots m bad l used) p)
+  unfolding pushed oldestLeft
   pushed-below s p =
       case (ltb used 8)
-      (λ t. let q = ltb-true used 8 t in rw t (behind-below (with-slots m l used) s p (omega arith) rest))
+      (λ t. let q = ltb-true used 8 t in rw t (behind-below (with-slots m bad l used) s p (omega arith) rest))
       (λ t.
       let q = ltb-false used 8 t in
-      let b = oldestLeft (with-slots m l used) in
-      let n = oldest-long m l used (omega arith) in
-      let u = oldest-used m l used in
+      let b = oldestLeft (with-slots m bad l used) in
+      let n = oldest-long m bad l used (omega arith) in
+      let u = oldest-used m bad l used in
       rw t
-      (behind-below b s p (omega arith) (subst (λ (k : ℕ). Behind (b .buffer .slots) k) (sym u) (oldest-behind m l used (omega arith) (omega arith) rest))
-      ∙ ap (λ (z : ℕ). laidOver s p z) (oldest-same m l used p (omega arith) good)))
+      (behind-below b s p (omega arith) (subst (λ (k : ℕ). Behind (b .buffer .slots) k) (sym u) (oldest-behind m bad l used (omega arith) (omega arith) rest))
+      ∙ ap (λ (z : ℕ). laidOver bad s p z) (oldest-same m bad l used p (omega arith) good)))
 
   good-at : (i : ℕ) → i < used → length (getD l i emptySlot .bytes) ≡ 16
   good-at i h = bytes-long used l i (length m) h good
 
   -- "a half sent out always takes a new one"
-  pub half-below : (block : ℕ) (bytes : List ℕ) (p : ℕ)
-      → below (halfPushed (with-slots m l used) block bytes) p ≡ cond (eqb (p / 16) block) (getD bytes (p % 16) 0) (below (with-slots m l used) p)
+  pub half-below : (block : ℕ) (bytes : List ℕ) (p : ℕ) → (p / 16 ≡ block → isBad bad (p / 4) ≡ false)
+      → below (halfPushed (with-slots m bad l used) block bytes) p ≡ cond (eqb (p / 16) block) (getD bytes (p % 16) 0) (below (with-slots m bad l used) p)
   unfolding halfPushed
-  half-below block bytes p =
-      pushed-below (record { block = block; mask = 0xFFFF; bytes = bytes }) p ∙ whole (eqb (p / 16) block)
-    where
-      whole : (t : Bool) → cond (t && bit 0xFFFF (p % 16)) (getD bytes (p % 16) 0) (below (with-slots m l used) p)
-          ≡ cond t (getD bytes (p % 16) 0) (below (with-slots m l used) p)
-      whole true = rw (ones-in 16 (p % 16) (omega arith))
-      whole false = refl
+  half-below block bytes p h =
+      let s : Slot = record { block = block; mask = 0xFFFF; bytes = bytes } in
+      pushed-below s p
+      ∙ case (eqb (p / 16) block)
+      (λ t. rw (h (eqb-true (p / 16) block t), t, ones-in 16 (p % 16) (omega arith)))
+      (λ t. let f = unmasked-lands bad s p (rw t) in rw (f, t))
 
   -- "A store joins the newest entry of the same block, else takes a new one": exactly the bytes of the store change
   pub buffered-below : (pa : PhysicalAddress) (w v p : ℕ) → pa .0 % 16 + w ≤ 16
-      → below (buffered (with-slots m l used) pa w v) p ≡ laidOver (newSlot (blockOf pa) w (pa .0 % 16) v) p (below (with-slots m l used) p)
+      → below (buffered (with-slots m bad l used) pa w v) p ≡ laidOver bad (newSlot (blockOf pa) w (pa .0 % 16) v) p (below (with-slots m bad l used) p)
   unfolding buffered
   buffered-below pa w v p h = by (newestOf l (blockOf pa) used) refl
     where
       by : (x : Search) → newestOf l (blockOf pa) used ≡ x
-          → below (storedAt (with-slots m l used) (blockOf pa) w (pa .0 % 16) v x) p
-          ≡ laidOver (newSlot (blockOf pa) w (pa .0 % 16) v) p (below (with-slots m l used) p)
+          → below (storedAt (with-slots m bad l used) (blockOf pa) w (pa .0 % 16) v x) p
+          ≡ laidOver bad (newSlot (blockOf pa) w (pa .0 % 16) v) p (below (with-slots m bad l used) p)
       by (At i) e =
-          joined-below m l used (blockOf pa) w (pa .0 % 16) v i e (omega arith) rest (good-at i (newest-below l (blockOf pa) used i e)) h p
+          joined-below m bad l used (blockOf pa) w (pa .0 % 16) v i e (omega arith) rest (good-at i (newest-below l (blockOf pa) used i e)) h p
       by Nothing e = pushed-below (newSlot (blockOf pa) w (pa .0 % 16) v) p

@@ -1,5 +1,5 @@
 -- "Buffer: eight entries of sixteen bytes each, with a 16-bit mask and a block number (physical address divided by 16), oldest leaving
--- first when full or drained; the others close up, and bytes outside the mask are zero."
+-- first when full or drained; the others close up, and bytes outside the mask are zero." Document 02, Five: bytes of bad words are dropped.
 use Prim.Native.Nat.{ℕ, zero, suc, _+_, _*_, _-_, _/_, _%_, _^_}
 use mathlib.Core.Bool.{Bool, false, cond, _&&_, _||_}
 use mathlib.Core.List.{List, [], _∷_, _++_}
@@ -15,28 +15,34 @@ use Rattle.values.specs.declared.Slot.{Slot}
 use Rattle.values.specs.declared.Search.{Search}
 use Rattle.values.specs.declared.Search.the-variants.{At, Nothing}
 use Rattle.words.specs.Words.{stored}
+use Rattle.bus.specs.Physical.{Physical, physical, isBad}
 
 -- the eight places, oldest first, and the number of entries: places from `used` on are empty
 pub record Buffer : Type 0 where
   pub slots : List Slot
   pub used : ℕ
 
--- memory and the buffer before it
+-- memory with its map of bad words, and the buffer before it
 pub record Backing : Type 0 where
   pub memory : List ℕ
+  pub bad : List ℕ
   pub buffer : Buffer
 
 abbrev pub bufferFrom : List Slot → ℕ → Buffer
 bufferFrom slots used = record { slots = slots; used = used }
 
-abbrev pub backingFrom : List ℕ → Buffer → Backing
-backingFrom memory buffer = record { memory = memory; buffer = buffer }
+abbrev pub backingFrom : List ℕ → List ℕ → Buffer → Backing
+backingFrom memory bad buffer = record { memory = memory; bad = bad; buffer = buffer }
 
 abbrev pub withMemory : Backing → List ℕ → Backing
-withMemory b memory = backingFrom memory (b .buffer)
+withMemory b memory = backingFrom memory (b .bad) (b .buffer)
 
 abbrev pub withBuffer : Backing → Buffer → Backing
-withBuffer b buffer = backingFrom (b .memory) buffer
+withBuffer b buffer = backingFrom (b .memory) (b .bad) buffer
+
+-- memory as the bus sees it
+abbrev pub physicalBehind : Backing → Physical
+physicalBehind b = physical (b .memory) (b .bad)
 
 abbrev pub emptyBuffer : Buffer
 emptyBuffer = bufferFrom (replicate 8 emptySlot) 0
@@ -55,11 +61,23 @@ unfoldable pub laid : List ℕ → ℕ → ℕ → List ℕ → List ℕ
 laid memory a mask [] = memory
 laid memory a mask (x ∷ xs) = laid (laidOne memory a mask x) (a + 1) (mask / 2) xs
 
+-- "Buffered bytes for a bad word are dropped on leaving": the lowest four bits of a mask, for the bytes of word w, or none where it is bad
+abbrev pub wordMask : List ℕ → ℕ → ℕ → ℕ
+wordMask bad w mask = cond (isBad bad w) 0 (mask % 16)
+
+-- the mask of n words from w on, without the bytes of bad ones; that of a block has four words
+unfoldable pub goodWords : List ℕ → ℕ → ℕ → ℕ → ℕ
+goodWords bad w zero mask = 0
+goodWords bad w (suc n) mask = wordMask bad w mask + 16 * goodWords bad (w + 1) n (mask / 16)
+
+abbrev pub goodMask : List ℕ → ℕ → ℕ → ℕ
+goodMask bad block mask = goodWords bad (block * 4) 4 mask
+
 -- the oldest entry leaves for memory, and the others close up
 unfoldable pub oldestLeft : Backing → Backing
 oldestLeft b =
     let s = slotAt (b .buffer) 0 in
-    backingFrom (laid (b .memory) (s .block * 16) (s .mask) (s .bytes))
+    backingFrom (laid (b .memory) (s .block * 16) (goodMask (b .bad) (s .block) (s .mask)) (s .bytes)) (b .bad)
     (bufferFrom (drop 1 (b .buffer .slots) ++ (emptySlot ∷ [])) (b .buffer .used - 1))
 
 unfoldable pub leaving : ℕ → Backing → Backing

@@ -19,6 +19,6 @@ slotsOf [] bs = []
 slotsOf (w ∷ ws) [] = []
 slotsOf (w ∷ ws) (b ∷ bs) = slotOf w b ∷ slotsOf ws bs
 
--- memory and the buffer that words, bytes and the number of entries stand for
-abbrev pub backingOf : List ℕ → List ℕ → List (List ℕ) → ℕ → Backing
-backingOf memory words bytes used = (backingFrom memory (bufferFrom (slotsOf words bytes) used))
+-- memory, map and the buffer that words, bytes and the number of entries stand for
+abbrev pub backingOf : List ℕ → List ℕ → List ℕ → List (List ℕ) → ℕ → Backing
+backingOf memory bad words bytes used = (backingFrom memory bad (bufferFrom (slotsOf words bytes) used))

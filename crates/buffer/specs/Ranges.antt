@@ -16,8 +16,8 @@ pub record Fits (memory : List ℕ) (words : List ℕ) (bytes : List (List ℕ))
   pub inside : (i : ℕ) → i < used → getD words i 0 / 0x100000000 * 16 + 16 ≤ length memory
 
 -- what the code leaves is this backing, and fits
-pub record Left (memory words : List ℕ) (bytes : List (List ℕ)) (used : ℕ) (b : Backing) : Type 0 where
-  pub same : backingOf memory words bytes used ≡ b
+pub record Left (memory bad words : List ℕ) (bytes : List (List ℕ)) (used : ℕ) (b : Backing) : Type 0 where
+  pub same : backingOf memory bad words bytes used ≡ b
   pub fits : Fits memory words bytes used
 
 -- a store of a width inside a block of memory

@@ -3,6 +3,9 @@ use Prim.Native.Nat.{ℕ, _+_, _≤_}
 use native.Mathlib.Omega.{arith}
 use mathlib.Core.Path.{_≡_, refl}
 use lib.Dec.{ltb}
+use lib.Seq.{set-set}
+use Rattle.bus.specs.Physical.{lineAborts}
+use Rattle.buffer.specs.Buffer.{physicalBehind}
 use Rattle.values.specs.Lists.{sum}
 use Rattle.values.specs.Empty.{emptyLine}
 use Rattle.values.specs.Addresses.{offsetOf, tagOf, physicalLine}
@@ -24,6 +27,7 @@ use Rattle.cache.specs.Dcache.{
   dirtyHalves,
   victim,
   hitStore,
+  gaveWay,
   lineRead,
   filled,
   cleanedAt,
@@ -54,8 +58,13 @@ store-dirties c i va width v =
 -- a fill: the victim's dirty halves are sent out
 pub fill-dirties : (s : Side) (va : VirtualAddress) (pa : PhysicalAddress)
     → filled s va pa .halves + sum dirtyHalves (filled s va pa .side .cache .lines) ≡ sum dirtyHalves (s .cache .lines)
-unfolding filled lineRead
-fill-dirties s va pa = sum-out dirtyHalves (s .cache .lines) (victim (s .cache) va) (freshLine (tagOf va) (physicalLine pa)) emptyLine refl refl
+unfolding filled gaveWay lineRead
+fill-dirties s va pa =
+    let i = victim (s .cache) va in
+    let new = freshLine (tagOf va) (physicalLine pa) in
+    case (lineAborts (physicalBehind (s .backing)) pa)
+    (λ t. rw t (sum-out dirtyHalves (s .cache .lines) i emptyLine emptyLine refl refl))
+    (λ t. rw (t, set-set (s .cache .lines) i emptyLine new) (sum-out dirtyHalves (s .cache .lines) i new emptyLine refl refl))
 
 -- a clean: the line's dirty halves are sent out
 pub clean-at-dirties : (s : Side) (x : Search)

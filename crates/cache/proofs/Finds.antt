@@ -11,15 +11,14 @@ use borrow.Author.Tests.{eqb-true, eq-eqb, ltb-true, ltb-false}
 use Rattle.values.specs.Empty.{emptyLine}
 use Rattle.values.specs.Addresses.{setOf, tagOf}
 use Rattle.values.specs.declared.VirtualAddress.{VirtualAddress}
-use Rattle.values.specs.declared.PhysicalAddress.{PhysicalAddress}
 use Rattle.values.specs.declared.Line.{Line}
 use Rattle.values.specs.declared.Search.{Search}
 use Rattle.values.specs.declared.Search.the-variants.{At, Nothing}
 use Rattle.values.proofs.Cases.{case, clash, and-left, and-right}
 use Rattle.values.proofs.Searches.{matched, unmatched}
 use Rattle.values.proofs.Firsts.{first-at, first-none}
-use Rattle.cache.specs.Dcache.{Dcache, Side, matches, find, hitStore, victim, filled, cleaned, allFlushed}
-use Rattle.cache.proofs.PutGet.{SameLine, same-stored, same-cleaned, line-filled, other-filled, all-flushed}
+use Rattle.cache.specs.Dcache.{Dcache, Side, matches, find, hitStore, cleaned, allFlushed}
+use Rattle.cache.proofs.PutGet.{SameLine, same-stored, same-cleaned, all-flushed}
 
 -- line i is the first of the address's set that matches
 pub record Found (lines : List Line) (va : VirtualAddress) (i : ℕ) : Type 0 where
@@ -133,16 +132,6 @@ find-stored c i va width v wa = find-same (c .lines) (hitStore c i va width v .l
 -- a clean leaves every search as it was
 pub find-cleaned : (s : Side) (va wa : VirtualAddress) → find (cleaned s va .side .cache .lines) wa ≡ find (s .cache .lines) wa
 find-cleaned s va wa = find-same (s .cache .lines) (cleaned s va .side .cache .lines) wa (same-cleaned s va)
-
--- a line that is filled on a miss is found
-pub find-filled : (s : Side) (va : VirtualAddress) (pa : PhysicalAddress) → find (s .cache .lines) va ≡ Nothing
-    → getD (s .cache .pointers) (setOf va) 0 < 32 → victim (s .cache) va < length (s .cache .lines)
-    → find (filled s va pa .side .cache .lines) va ≡ At (victim (s .cache) va)
-find-filled s va pa e p h =
-    found-at (filled s va pa .side .cache .lines) va (victim (s .cache) va) (omega arith) (omega arith)
-    (ap (matches va) (line-filled s va pa h) ∙ eq-eqb (tagOf va) (tagOf va) refl)
-    (λ j f k.
-    ap (matches va) (other-filled s va pa j (λ q. absurd (omega arith))) ∙ missed (s .cache .lines) va e j f (omega arith))
 
 -- nothing is found once all lines are flushed
 pub find-all-flushed : (c : Dcache) (va : VirtualAddress) → find (allFlushed c .lines) va ≡ Nothing

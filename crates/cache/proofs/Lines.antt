@@ -1,7 +1,7 @@
 -- Lines and the words that stand for them; the steps of the search of a set.
 use Prim.Native.Nat.{ℕ, _+_, _*_, _/_, _%_, _<_, _≤_}
 use native.Mathlib.Omega.{arith}
-use mathlib.Core.Bool.{true, false}
+use mathlib.Core.Bool.{true, false, _||_}
 use mathlib.Core.Path.{_≡_, refl, sym, _∙_, ap}
 use mathlib.Core.List.{List}
 use lib.Dec.{eqb}
@@ -17,7 +17,7 @@ use Rattle.values.proofs.Searches.{search-hit, search-on, search-end}
 use Rattle.values.proofs.Maps.{map-at, words-step}
 use Rattle.values.proofs.InPlace.{Upto, upto-end, map-constant}
 use Rattle.cache.specs.Dcache.{hasTag, marked, cleanLine, freshLine}
-use Rattle.cache.specs.Packing.{lineOf, linesOf}
+use Rattle.cache.specs.Packing.{lineOf, linesOf, SendsLine}
 
 pub line-zero : lineOf 0 ≡ emptyLine
 unfolding lineOf
@@ -191,3 +191,12 @@ fresh-word tag frame h =
     let f : x / 8 % 0x20000000 ≡ frame = rw (c .rest) (omega arith) in
     let t : x / 0x100000000 ≡ tag = above-frame x ∙ rw (c .rest) (omega arith) in
     rw (c .zero-bit, c .one-bit, c .two-bit, f, t)
+
+-- a line's frame is below 2 ^ 29, so that its halves can go out where it lies inside memory
+pub line-sends : (w : ℕ) (memory : List ℕ) → ((lineOf w .low || lineOf w .high) ≡ true → lineOf w .frame * 32 + 32 ≤ length memory)
+    → SendsLine memory (lineOf w)
+unfolding lineOf
+line-sends w memory h = record { low-frame = omega arith; dirty-inside = h }
+
+pub held-sends : (w : ℕ) (memory : List ℕ) → lineOf w .frame * 32 + 32 ≤ length memory → SendsLine memory (lineOf w)
+held-sends w memory h = line-sends w memory (λ t. h)

@@ -1,7 +1,7 @@
 -- Lines, pointers and cache store bytes after each operation: what it puts, and every other as it was.
 use Prim.Native.Nat.{ℕ, _+_, _-_, _*_, _%_, _^_, _<_, _≤_}
 use native.Mathlib.Omega.{arith}
-use mathlib.Core.Bool.{true}
+use mathlib.Core.Bool.{true, false}
 use mathlib.Core.Logic.{_≢_}
 use mathlib.Core.Path.{_≡_, refl, sym, _∙_, ap}
 use mathlib.Core.List.{List, _++_}
@@ -19,10 +19,12 @@ use Rattle.values.specs.declared.Search.the-variants.{At, Nothing}
 use Rattle.values.proofs.Cases.{case}
 use Rattle.words.specs.Words.{stored}
 use Rattle.words.proofs.Laws.{byte-in, byte-before, byte-behind, load-same}
-use Rattle.buffer.specs.Buffer.{ready}
+use Rattle.bus.specs.Physical.{lineAborts}
+use Rattle.buffer.specs.Buffer.{physicalBehind, ready}
 use Rattle.cache.specs.Dcache.{
   Dcache,
   Side,
+  sideFrom,
   lineAt,
   withLine,
   find,
@@ -34,6 +36,7 @@ use Rattle.cache.specs.Dcache.{
   turned,
   copied,
   freshLine,
+  gaveWay,
   lineRead,
   filled,
   cleanLine,
@@ -43,7 +46,6 @@ use Rattle.cache.specs.Dcache.{
   lineFlushed,
   allFlushed,
 }
-use Rattle.cache.proofs.Unchanged.{memory-filled}
 
 -- ---- one line replaced
 
@@ -263,50 +265,44 @@ module _ (pointers : List ℕ) (s : ℕ) where
 -- ---- a fill
 
 module _ (s : Side) (va : VirtualAddress) (pa : PhysicalAddress) where
-  -- the line is read into the place of the victim, from the memory that the fill leaves
-  pub filled-cache : filled s va pa .side .cache ≡ lineRead (s .cache) (victim (s .cache) va) va pa (filled s va pa .side .backing .memory)
-  unfolding filled
-  filled-cache = refl
-
   -- the backing once the victim has given way and the buffer is ready
-  pub filled-backing : filled s va pa .side .backing
+  pub way-backing : gaveWay s va pa .side .backing
       ≡ ready (halvesSent (s .backing) (lineAt (s .cache) (victim (s .cache) va)) (s .cache .store) (victim (s .cache) va * 32)) (physicalLine pa * 32) 32
-  unfolding filled
-  filled-backing = refl
+  unfolding gaveWay
+  way-backing = refl
 
-  -- a valid line with no dirty half stands in the place of the victim
-  pub line-filled : victim (s .cache) va < length (s .cache .lines)
-      → lineAt (filled s va pa .side .cache) (victim (s .cache) va) ≡ freshLine (tagOf va) (physicalLine pa)
-  unfolding filled
-  line-filled h = line-read (s .cache) (victim (s .cache) va) va pa _ h
+  -- the place is empty
+  pub line-way : lineAt (gaveWay s va pa .side .cache) (victim (s .cache) va) ≡ emptyLine
+  unfolding gaveWay
+  line-way = line-put (s .cache .lines) (victim (s .cache) va) emptyLine (λ e. refl)
 
   -- every other line stays
-  pub other-filled : (j : ℕ) → j ≢ victim (s .cache) va → lineAt (filled s va pa .side .cache) j ≡ lineAt (s .cache) j
+  pub other-way : (j : ℕ) → j ≢ victim (s .cache) va → lineAt (gaveWay s va pa .side .cache) j ≡ lineAt (s .cache) j
+  unfolding gaveWay
+  other-way j n = getD-set-other (s .cache .lines) (victim (s .cache) va) j emptyLine emptyLine n
+
+  -- "the cache store keeps its bytes"
+  pub way-store : gaveWay s va pa .side .cache .store ≡ s .cache .store
+  unfolding gaveWay
+  way-store = refl
+
+  -- the cache once the line is read
+  abbrev pub readInto : Dcache
+  readInto = lineRead (gaveWay s va pa .side .cache) (victim (s .cache) va) va pa (gaveWay s va pa .side .backing .memory)
+
+  -- a fill leaves an empty place, or the line read
+  pub fill-cases {ℓ} : (P : Side → Type ℓ) → (lineAborts (physicalBehind (s .backing)) pa ≡ true → P (gaveWay s va pa .side))
+      → (lineAborts (physicalBehind (s .backing)) pa ≡ false → P (sideFrom readInto (gaveWay s va pa .side .backing))) → P (filled s va pa .side)
   unfolding filled
-  other-filled j n = other-read (s .cache) (victim (s .cache) va) va pa _ j n
+  fill-cases P f g = case (lineAborts (physicalBehind (s .backing)) pa) (λ t. rw t (f t)) (λ t. rw t (g t))
 
-  module _ (h : victim (s .cache) va * 32 + 32 ≤ length (s .cache .store)) (k : physicalLine pa * 32 + 32 ≤ length (s .backing .memory)) where
-    abbrev now : List ℕ
-    now = filled s va pa .side .backing .memory
+  -- what it leaves behind the cache, and the number of halves sent out, are the same
+  pub fill-backing : filled s va pa .side .backing ≡ gaveWay s va pa .side .backing
+  fill-backing = fill-cases (λ t. t .backing ≡ gaveWay s va pa .side .backing) (λ e. refl) (λ e. refl)
 
-    inside : physicalLine pa * 32 + 32 ≤ length now
-    inside = let e = memory-filled s va pa in omega arith
-
-    -- the bytes of the line are memory's
-    pub byte-filled : (j : ℕ) → j < 32 → getD (filled s va pa .side .cache .store) (victim (s .cache) va * 32 + j) 0
-        ≡ getD (filled s va pa .side .backing .memory) (physicalLine pa * 32 + j) 0
-    unfolding filled
-    byte-filled j l = byte-read (s .cache) (victim (s .cache) va) va pa now h inside j l
-
-    -- a byte before the line
-    pub byte-before-filled : (p : ℕ) → p < victim (s .cache) va * 32 → getD (filled s va pa .side .cache .store) p 0 ≡ getD (s .cache .store) p 0
-    unfolding filled
-    byte-before-filled p l = byte-before-read (s .cache) (victim (s .cache) va) va pa now h inside p l
-
-    -- a byte behind the line
-    pub byte-behind-filled : (p : ℕ) → victim (s .cache) va * 32 + 32 ≤ p → getD (filled s va pa .side .cache .store) p 0 ≡ getD (s .cache .store) p 0
-    unfolding filled
-    byte-behind-filled p l = byte-behind-read (s .cache) (victim (s .cache) va) va pa now h inside p l
+  pub fill-halves : filled s va pa .halves ≡ gaveWay s va pa .halves
+  unfolding filled
+  fill-halves = case (lineAborts (physicalBehind (s .backing)) pa) (λ t. rw t) (λ t. rw t)
 
 -- ---- a clean
 

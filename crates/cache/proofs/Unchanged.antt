@@ -6,7 +6,7 @@ use mathlib.Core.Bool.{Bool, true, false}
 use mathlib.Core.Path.{_≡_, refl, sym, _∙_, subst}
 use mathlib.Core.List.{List}
 use lib.Dec.{ltb}
-use lib.ListN.{length, length-set, length-drop, getD, take, drop, List·getD-eq-default}
+use lib.ListN.{length, length-set, length-drop, getD, set, take, drop, List·getD-eq-default}
 use lib.Seq.{length-take-le, length-paste}
 use borrow.Author.Tests.{ltb-true, ltb-false}
 use Rattle.values.specs.Empty.{emptyLine}
@@ -18,11 +18,13 @@ use Rattle.values.specs.declared.Search.{Search}
 use Rattle.values.specs.declared.Search.the-variants.{At, Nothing}
 use Rattle.values.proofs.Cases.{case}
 use Rattle.words.proofs.Laws.{length-stored}
-use Rattle.buffer.specs.Buffer.{Backing}
-use Rattle.buffer.proofs.Lengths.{BufferShape, memory-half, memory-ready, shape-half, shape-ready}
+use Rattle.bus.specs.Physical.{lineAborts}
+use Rattle.buffer.specs.Buffer.{Backing, physicalBehind}
+use Rattle.buffer.proofs.Lengths.{BufferShape, memory-half, memory-ready, bad-half, bad-ready, shape-half}
 use Rattle.cache.specs.Dcache.{
   Dcache,
   Side,
+  dcacheFrom,
   lineAt,
   withLine,
   find,
@@ -34,6 +36,7 @@ use Rattle.cache.specs.Dcache.{
   turned,
   copied,
   freshLine,
+  gaveWay,
   lineRead,
   filled,
   cleanLine,
@@ -59,11 +62,11 @@ memory-sent b l store a =
     memory-half-sent (l .high) (halfSent (l .low) b (l .frame * 2) store a) (l .frame * 2 + 1) store (a + 16)
     ∙ memory-half-sent (l .low) b (l .frame * 2) store a
 
--- a fill
-pub memory-filled : (s : Side) (va : VirtualAddress) (pa : PhysicalAddress)
-    → length (filled s va pa .side .backing .memory) ≡ length (s .backing .memory)
-unfolding filled
-memory-filled s va pa =
+-- the line at the set's pointer gives way
+pub memory-way : (s : Side) (va : VirtualAddress) (pa : PhysicalAddress)
+    → length (gaveWay s va pa .side .backing .memory) ≡ length (s .backing .memory)
+unfolding gaveWay
+memory-way s va pa =
     let i = victim (s .cache) va in
     let l = lineAt (s .cache) i in
     memory-ready (halvesSent (s .backing) l (s .cache .store) (i * 32)) (physicalLine pa * 32) 32
@@ -80,18 +83,52 @@ pub memory-cleaned : (s : Side) (va : VirtualAddress) → length (cleaned s va .
 unfolding cleaned
 memory-cleaned s va = memory-cleaned-at s (find (s .cache .lines) va)
 
+-- ---- the map stays
+
+-- one half sent out, if it is dirty
+pub bad-half-sent : (dirty : Bool) (b : Backing) (block : ℕ) (store : List ℕ) (a : ℕ) → halfSent dirty b block store a .bad ≡ b .bad
+bad-half-sent true b block store a = bad-half b block (take 16 (drop a store))
+bad-half-sent false b block store a = refl
+
+-- the dirty halves of a line sent out
+pub bad-sent : (b : Backing) (l : Line) (store : List ℕ) (a : ℕ) → halvesSent b l store a .bad ≡ b .bad
+unfolding halvesSent
+bad-sent b l store a =
+    bad-half-sent (l .high) (halfSent (l .low) b (l .frame * 2) store a) (l .frame * 2 + 1) store (a + 16)
+    ∙ bad-half-sent (l .low) b (l .frame * 2) store a
+
+-- the line at the set's pointer gives way
+pub bad-way : (s : Side) (va : VirtualAddress) (pa : PhysicalAddress) → gaveWay s va pa .side .backing .bad ≡ s .backing .bad
+unfolding gaveWay
+bad-way s va pa =
+    let i = victim (s .cache) va in
+    let l = lineAt (s .cache) i in
+    bad-ready (halvesSent (s .backing) l (s .cache .store) (i * 32)) (physicalLine pa * 32) 32
+    ∙ bad-sent (s .backing) l (s .cache .store) (i * 32)
+
+-- a fill
+pub bad-filled : (s : Side) (va : VirtualAddress) (pa : PhysicalAddress) → filled s va pa .side .backing .bad ≡ s .backing .bad
+unfolding filled
+bad-filled s va pa =
+    case (lineAborts (physicalBehind (s .backing)) pa) (λ t. rw t (bad-way s va pa)) (λ t. rw t (bad-way s va pa))
+
+-- a clean of the line found
+pub bad-cleaned-at : (s : Side) (x : Search) → cleanedAt s x .side .backing .bad ≡ s .backing .bad
+unfolding cleanedAt
+bad-cleaned-at s Nothing = refl
+bad-cleaned-at s (At i) = bad-sent (s .backing) (lineAt (s .cache) i) (s .cache .store) (i * 32)
+
+-- a clean of the line of an address
+pub bad-cleaned : (s : Side) (va : VirtualAddress) → cleaned s va .side .backing .bad ≡ s .backing .bad
+unfolding cleaned
+bad-cleaned s va = bad-cleaned-at s (find (s .cache .lines) va)
+
 -- ---- "pointers and cache store bytes stay"
 
 -- a store on a hit moves no pointer
 pub pointers-stored : (c : Dcache) (i : ℕ) (va : VirtualAddress) (width v : ℕ) → hitStore c i va width v .pointers ≡ c .pointers
 unfolding hitStore
 pointers-stored c i va width v = refl
-
--- a fill steps the pointer of its set alone
-pub pointers-filled : (s : Side) (va : VirtualAddress) (pa : PhysicalAddress)
-    → filled s va pa .side .cache .pointers ≡ turned (s .cache .pointers) (setOf va)
-unfolding filled lineRead
-pointers-filled s va pa = refl
 
 -- a clean of the line found moves no pointer
 pub pointers-cleaned-at : (s : Side) (x : Search) → cleanedAt s x .side .cache .pointers ≡ s .cache .pointers
@@ -186,7 +223,7 @@ unfolding lineRead
 shape-read c i va pa m low inside h =
     record {
       lines-long = length-set (c .lines) i (freshLine (tagOf va) (physicalLine pa)) ∙ h .lines-long;
-      pointers-long = length-set (c .pointers) (setOf va) ((getD (c .pointers) (setOf va) 0 + 1) % 32) ∙ h .pointers-long;
+      pointers-long = h .pointers-long;
       store-long = length-copied (c .store) (i * 32) m (physicalLine pa * 32) 32 (fits (h .store-long)) inside ∙ h .store-long;
     }
   where
@@ -233,27 +270,14 @@ none-sent b l store a p q = rw (p, q)
 pub victim-low : (c : Dcache) (va : VirtualAddress) → getD (c .pointers) (setOf va) 0 < 32 → victim c va < 512
 victim-low c va h = omega arith
 
--- a fill
-pub shape-filled : (s : Side) (va : VirtualAddress) (pa : PhysicalAddress) → getD (s .cache .pointers) (setOf va) 0 < 32
-    → physicalLine pa * 32 + 32 ≤ length (s .backing .memory) → SideShape s → SideShape (filled s va pa .side)
-unfolding filled
-shape-filled s va pa p inside h =
-    let i = victim (s .cache) va in
-    let l = lineAt (s .cache) i in
-    let b = halvesSent (s .backing) l (s .cache .store) (i * 32) in
-    let low : i < 512 = victim-low (s .cache) va p in
-    let n = memory-ready b (physicalLine pa * 32) 32 ∙ memory-sent (s .backing) l (s .cache .store) (i * 32) in
+-- a line that gives way
+pub shape-way : (c : Dcache) (i s : ℕ) → CacheShape c → CacheShape (dcacheFrom (set (c .lines) i emptyLine) (turned (c .pointers) s) (c .store))
+shape-way c i s h =
     record {
-      cache-shape = shape-read (s .cache) i va pa _ low (within n inside) (h .cache-shape);
-      buffer-shape = shape-ready b (physicalLine pa * 32) 32 (shape-sent (s .backing) l (s .cache .store) (i * 32)
-          (room i low (h .cache-shape .store-long)) (h .buffer-shape));
+      lines-long = length-set (c .lines) i emptyLine ∙ h .lines-long;
+      pointers-long = length-set (c .pointers) s ((getD (c .pointers) s 0 + 1) % 32) ∙ h .pointers-long;
+      store-long = h .store-long;
     }
-  where
-    within : {x y z : ℕ} → x ≡ y → z ≤ y → z ≤ x
-    within e k = omega arith
-
-    room : (i : ℕ) → i < 512 → length (s .cache .store) ≡ 16384 → i * 32 + 32 ≤ length (s .cache .store)
-    room i k e = omega (arith, k, e)
 
 -- a clean of the line found
 pub shape-cleaned-at : (s : Side) (x : Search) → SideShape s → SideShape (cleanedAt s x .side)

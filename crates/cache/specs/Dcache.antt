@@ -15,7 +15,8 @@ use Rattle.values.specs.declared.Line.{Line}
 use Rattle.values.specs.declared.Search.{Search}
 use Rattle.values.specs.declared.Search.the-variants.{At, Nothing}
 use Rattle.words.specs.Words.{valueAt, stored}
-use Rattle.buffer.specs.Buffer.{Backing, halfPushed, ready}
+use Rattle.bus.specs.Physical.{lineAborts}
+use Rattle.buffer.specs.Buffer.{Backing, physicalBehind, halfPushed, ready}
 
 -- the lines, the pointer of each set, and the cache store
 pub record Dcache : Type 0 where
@@ -110,20 +111,29 @@ copied destination at source from n = take at destination ++ take n (drop from s
 abbrev pub freshLine : ℕ → ℕ → Line
 freshLine tag frame = record { valid = true; tag = tag; frame = frame; low = false; high = false }
 
--- "the line is read": into line i, from a backing in which no masked byte lies in it
-unfoldable pub lineRead : Dcache → ℕ → VirtualAddress → PhysicalAddress → List ℕ → Dcache
-lineRead c i va pa memory =
-    dcacheFrom (set (c .lines) i (freshLine (tagOf va) (physicalLine pa))) (turned (c .pointers) (setOf va))
-    (copied (c .store) (i * 32) memory (physicalLine pa * 32) 32)
-
--- "the line at the set's pointer gives way, its dirty halves go to the buffer, low half first, the pointer steps, the line is read";
--- "A fill, once the old line has given way, ... first drains it if a masked byte lies in what is read (the whole line, or the access)"
-unfoldable pub filled : Side → VirtualAddress → PhysicalAddress → Sent
-filled s va pa =
+-- "the line at the set's pointer gives way, its dirty halves go to the buffer, low half first, the pointer steps"; "A fill, once the old line has given
+-- way, ... first drains it if a masked byte lies in what is read (the whole line, or the access)"; the place is empty
+unfoldable pub gaveWay : Side → VirtualAddress → PhysicalAddress → Sent
+gaveWay s va pa =
     let i = victim (s .cache) va in
     let l = lineAt (s .cache) i in
-    let b = ready (halvesSent (s .backing) l (s .cache .store) (i * 32)) (physicalLine pa * 32) 32 in
-    sentFrom (sideFrom (lineRead (s .cache) i va pa (b .memory)) b) (dirtyHalves l)
+    sentFrom
+    (sideFrom (dcacheFrom (set (s .cache .lines) i emptyLine) (turned (s .cache .pointers) (setOf va)) (s .cache .store))
+    (ready (halvesSent (s .backing) l (s .cache .store) (i * 32)) (physicalLine pa * 32) 32))
+    (dirtyHalves l)
+
+-- "the line is read": into place i, from a memory in front of which no masked byte lies in it
+unfoldable pub lineRead : Dcache → ℕ → VirtualAddress → PhysicalAddress → List ℕ → Dcache
+lineRead c i va pa memory =
+    dcacheFrom (set (c .lines) i (freshLine (tagOf va) (physicalLine pa))) (c .pointers) (copied (c .store) (i * 32) memory (physicalLine pa * 32) 32)
+
+-- Document 02, Five: "A fill reads from the line's first word upward." An abort at any of its words: "Either way the old line has already given way, the
+-- pointer has stepped and any drain is done, the place stays empty, the cache store keeps its bytes". "This now holds too for fills outside memory."
+unfoldable pub filled : Side → VirtualAddress → PhysicalAddress → Sent
+filled s va pa =
+    let g = gaveWay s va pa in
+    cond (lineAborts (physicalBehind (s .backing)) pa) g
+    (sentFrom (sideFrom (lineRead (g .side .cache) (victim (s .cache) va) va pa (g .side .backing .memory)) (g .side .backing)) (g .halves))
 
 -- ---- clean and flush
 

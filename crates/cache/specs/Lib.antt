@@ -1,2 +1,3 @@
 pub mod Dcache
 pub mod Packing
+pub mod Copies

@@ -1,18 +1,19 @@
 // Lines of the Dcache sent to the write buffer, by their dirty halves, and cleaned.
 ghost use mathlib.Core.Path.{_≡_};
+ghost use mathlib.Core.Bool.{true};
 ghost use mathlib.Core.List.{List};
 ghost use Prim.Native.Nat.{ℕ, _+_, _*_, _≤_};
 ghost use lib.ListN.{length, take, drop};
 ghost use Rattle.buffer.specs.Packing.{backingOf};
 ghost use Rattle.buffer.specs.Ranges.{Fits, Left};
 ghost use Rattle.cache.specs.Dcache as spec;
-ghost use Rattle.cache.specs.Packing.{lineOf, sideOf, SentIs, HoldsLine};
+ghost use Rattle.cache.specs.Packing.{lineOf, sideOf, SentIs, SendsLine, HoldsLine};
 use values::Count;
 use values::Line;
 use values::Search;
 
 // Sixteen bytes of the cache store.
-fn half_at(store: &[u8], at: usize) -> [u8; 16]
+pub fn half_at(store: &[u8], at: usize) -> [u8; 16]
     requires { ⌜ at + 16 ≤ length (now store) ⌝ }
     ensures { λ r. ⌜ r ≡ take 16 (drop at (now (store .entry))) ⌝ }
 {
@@ -28,6 +29,7 @@ fn half_at(store: &[u8], at: usize) -> [u8; 16]
 // A half line, if it is dirty, goes to the buffer. It answers the number of entries.
 fn send_half(
     memory: &mut [u8],
+    bad: &[u8],
     words: &mut [u64],
     bytes: &mut [[u8; 16]],
     used: usize,
@@ -36,14 +38,16 @@ fn send_half(
     store: &[u8],
     at: usize,
 ) -> usize
-    requires { ⌜ Fits (now memory) (now words) (now bytes) used × (block * 16 + 16 ≤ length (now memory)) × (at + 16 ≤ length (now store)) ⌝ }
+    requires { ⌜ Fits (now memory) (now words) (now bytes) used × (dirty ≡ true → block * 16 + 16 ≤ length (now memory))
+        × (at + 16 ≤ length (now store)) ⌝ }
     ensures { λ r.
-        ⌜ Left (now (memory .exit)) (now (words .exit)) (now (bytes .exit)) r
-        (spec.halfSent dirty (backingOf (now (memory .entry)) (now (words .entry)) (now (bytes .entry)) used) block (now (store .entry)) at) ⌝ }
+        ⌜ Left (now (memory .exit)) (now (bad .entry)) (now (words .exit)) (now (bytes .exit)) r
+        (spec.halfSent dirty (backingOf (now (memory .entry)) (now (bad .entry)) (now (words .entry)) (now (bytes .entry)) used) block
+        (now (store .entry)) at) ⌝ }
 {
     if dirty {
         let half = half_at(store, at);
-        return buffer::push_half(memory, words, bytes, used, block, half);
+        return buffer::push_half(memory, bad, words, bytes, used, block, half);
     }
     used
 }
@@ -51,6 +55,7 @@ fn send_half(
 // A line's dirty halves go to the buffer, low half first. It answers the number of entries.
 pub fn send_halves(
     memory: &mut [u8],
+    bad: &[u8],
     words: &mut [u64],
     bytes: &mut [[u8; 16]],
     used: usize,
@@ -58,15 +63,26 @@ pub fn send_halves(
     store: &[u8],
     at: usize,
 ) -> usize
-    requires { ⌜ Fits (now memory) (now words) (now bytes) used × (l .frame * 32 + 32 ≤ length (now memory)) × (length (now memory) ≤ 0x1000000)
+    requires { ⌜ Fits (now memory) (now words) (now bytes) used × SendsLine (now memory) l
         × (at + 32 ≤ length (now store)) ⌝ }
     ensures { λ r.
-        ⌜ Left (now (memory .exit)) (now (words .exit)) (now (bytes .exit)) r
-        (spec.halvesSent (backingOf (now (memory .entry)) (now (words .entry)) (now (bytes .entry)) used) l (now (store .entry)) at) ⌝ }
+        ⌜ Left (now (memory .exit)) (now (bad .entry)) (now (words .exit)) (now (bytes .exit)) r
+        (spec.halvesSent (backingOf (now (memory .entry)) (now (bad .entry)) (now (words .entry)) (now (bytes .entry)) used) l (now (store .entry)) at) ⌝ }
 {
-    let n = send_half(memory, words, bytes, used, l.low, l.frame * 2, store, at);
+    let n = send_half(
+        memory,
+        bad,
+        words,
+        bytes,
+        used,
+        l.low,
+        l.frame * 2,
+        store,
+        at,
+    );
     send_half(
         memory,
+        bad,
         words,
         bytes,
         n,
@@ -100,6 +116,7 @@ pub fn dirty_halves(l: Line) -> Count
 // Line i sends its dirty halves to the buffer and stays valid.
 pub fn clean_line(
     memory: &mut [u8],
+    bad: &[u8],
     words: &mut [u64],
     bytes: &mut [[u8; 16]],
     used: usize,
@@ -110,13 +127,15 @@ pub fn clean_line(
     requires { ⌜ Fits (now memory) (now words) (now bytes) used × HoldsLine (now memory) (now lines) (now store) i ⌝ }
     ensures { λ r.
         ⌜ ((pointers : List ℕ)
-        → SentIs (now (memory .exit)) (now (words .exit)) (now (bytes .exit)) (r .used) (now (lines .exit)) pointers (now (store .entry)) (r .halves)
-        (spec.cleanedAt (sideOf (now (memory .entry)) (now (words .entry)) (now (bytes .entry)) used (now (lines .entry)) pointers (now (store .entry)))
+        → SentIs (now (memory .exit)) (now (bad .entry)) (now (words .exit)) (now (bytes .exit)) (r .used) (now (lines .exit)) pointers
+        (now (store .entry)) (r .halves)
+        (spec.cleanedAt (sideOf (now (memory .entry)) (now (bad .entry)) (now (words .entry)) (now (bytes .entry)) used (now (lines .entry)) pointers
+        (now (store .entry)))
         (Search.At i))) ⌝ }
 {
     let w = lines[i];
     let l = cache::line_of(w);
-    let n = send_halves(memory, words, bytes, used, l, store, i * 32);
+    let n = send_halves(memory, bad, words, bytes, used, l, store, i * 32);
     lines[i] = cleaned_word(w);
     Sent {
         used: n,

@@ -108,10 +108,10 @@ sentBy s used halves = withUsed (withCounts s (sent (s .counts) halves)) used
 
 module _ (es : List ℕ) (s : Scalars) (n : ℕ) (l : Lists) (va : VirtualAddress) where
   abbrev side-of : Side
-  side-of = sideOf (l .memory) (l .words) (l .bytes) (s .used) (l .lines) (l .pointers) (l .store)
+  side-of = sideOf (l .memory) (l .bad) (l .words) (l .bytes) (s .used) (l .lines) (l .pointers) (l .store)
 
   pub clean-left : (k : Lists) (i used halves : ℕ) (r : Scalars) → find (linesOf (l .lines)) va ≡ At i
-      → SentIs (k .memory) (k .words) (k .bytes) used (k .lines) (k .pointers) (k .store) halves (cleanedAt side-of (At i))
+      → SentIs (k .memory) (k .bad) (k .words) (k .bytes) used (k .lines) (k .pointers) (k .store) halves (cleanedAt side-of (At i))
       → r ≡ sentBy s used halves → machineOf k es r n ≡ cleanedLine (machineOf l es s n) va
   unfolding cleaned
   clean-left k i used halves r e f g = rw (g, f .count, e) (ap made (f .side))
@@ -125,11 +125,11 @@ module _ (es : List ℕ) (s : Scalars) (n : ℕ) (l : Lists) (va : VirtualAddres
       rw (e, add-zero (s .counts .halves))
 
 -- the halves of a line that is cleaned have room in their count
-pub clean-room : (memory words : List ℕ) (bytes : List (List ℕ)) (lines store ps : List ℕ) (s : Scalars) (i halves : ℕ)
+pub clean-room : (memory bad words : List ℕ) (bytes : List (List ℕ)) (lines store ps : List ℕ) (s : Scalars) (i halves : ℕ)
     → CleanReady memory words bytes lines store s → i < 512
-    → halves ≡ cleanedAt (sideOf memory words bytes (s .used) lines ps store) (At i) .halves → s .counts .halves + halves ≤ countLimit
+    → halves ≡ cleanedAt (sideOf memory bad words bytes (s .used) lines ps store) (At i) .halves → s .counts .halves + halves ≤ countLimit
 unfolding cleanedAt
-clean-room memory words bytes lines store ps s i halves k h e = rw (e, line-at lines i) (k .halves i h)
+clean-room memory bad words bytes lines store ps s i halves k h e = rw (e, line-at lines i) (k .halves i h)
 
 -- a write, once its operation is done
 pub write-left : (es fs : List ℕ) (s u : Scalars) (n : ℕ) (l k : Lists) (t : Transfer) (v : ℕ) (r : Registers) (q : Scalars)

@@ -59,6 +59,7 @@ fn flush_line(lines: &mut [u64], va: VirtualAddress)
 // The line of a virtual address is cleaned, if it is held.
 fn clean(
     memory: &mut [u8],
+    bad: &[u8],
     words: &mut [u64],
     bytes: &mut [[u8; 16]; 8],
     lines: &mut [u64],
@@ -69,14 +70,14 @@ fn clean(
     requires { ⌜ (va .0 < 0x100000000) × CleanReady (now memory) (now words) (now bytes) (now lines) (now store) s ⌝ }
     ensures { λ r.
         ⌜ ((pointers : List ℕ)
-        → Turns (lists (now (memory .entry)) (now (words .entry)) (now (bytes .entry)) (now (lines .entry)) pointers (now (store .entry))) s
-        (lists (now (memory .exit)) (now (words .exit)) (now (bytes .exit)) (now (lines .exit)) pointers (now (store .entry))) r
+        → Turns (lists (now (memory .entry)) (now (bad .entry)) (now (words .entry)) (now (bytes .entry)) (now (lines .entry)) pointers (now (store .entry))) s
+        (lists (now (memory .exit)) (now (bad .entry)) (now (words .exit)) (now (bytes .exit)) (now (lines .exit)) pointers (now (store .entry))) r
         (λ (m : Machine). spec.cleanedLine m va)) ⌝ }
 {
     let found = cache::find(lines, va);
     match found {
         Search::At(i) => {
-            let n = cleans::clean_line(memory, words, bytes, s.used, lines, store, i);
+            let n = cleans::clean_line(memory, bad, words, bytes, s.used, lines, store, i);
             machine::with_used(machine::sent(s, n.halves), n.used)
         },
         Search::Nothing => s,
@@ -86,6 +87,7 @@ fn clean(
 // The operations of register 7.
 fn operate_seven(
     memory: &mut [u8],
+    bad: &[u8],
     words: &mut [u64],
     bytes: &mut [[u8; 16]; 8],
     lines: &mut [u64],
@@ -97,8 +99,8 @@ fn operate_seven(
     requires { ⌜ (t .register ≡ 7) × (va .0 < 0x100000000) × CleanReady (now memory) (now words) (now bytes) (now lines) (now store) s ⌝ }
     ensures { λ r.
         ⌜ ((pointers : List ℕ)
-        → Turns (lists (now (memory .entry)) (now (words .entry)) (now (bytes .entry)) (now (lines .entry)) pointers (now (store .entry))) s
-        (lists (now (memory .exit)) (now (words .exit)) (now (bytes .exit)) (now (lines .exit)) pointers (now (store .entry))) r
+        → Turns (lists (now (memory .entry)) (now (bad .entry)) (now (words .entry)) (now (bytes .entry)) (now (lines .entry)) pointers (now (store .entry))) s
+        (lists (now (memory .exit)) (now (bad .entry)) (now (words .exit)) (now (bytes .exit)) (now (lines .exit)) pointers (now (store .entry))) r
         (λ (m : Machine). spec.operated m t va)) ⌝ }
 {
     if is_flush(t) {
@@ -110,10 +112,10 @@ fn operate_seven(
         return s;
     }
     if registers::is_pair(t, 1, 10) {
-        return clean(memory, words, bytes, lines, store, s, va);
+        return clean(memory, bad, words, bytes, lines, store, s, va);
     }
     if registers::is_pair(t, 4, 10) {
-        return machine::drain(memory, words, bytes, s);
+        return machine::drain(memory, bad, words, bytes, s);
     }
     s
 }
@@ -136,6 +138,7 @@ fn operate_eight(entries: &mut [u64], t: Transfer, va: VirtualAddress)
 // The operation of a write, of which the value written is the virtual address.
 fn operate(
     memory: &mut [u8],
+    bad: &[u8],
     words: &mut [u64],
     bytes: &mut [[u8; 16]; 8],
     lines: &mut [u64],
@@ -148,15 +151,15 @@ fn operate(
     requires { ⌜ (length (now entries) ≡ 32) × (va .0 < 0x100000000) × CleanReady (now memory) (now words) (now bytes) (now lines) (now store) s ⌝ }
     ensures { λ r.
         ⌜ ((pointers : List ℕ) (size : ℕ)
-        → machineOf (lists (now (memory .exit)) (now (words .exit)) (now (bytes .exit)) (now (lines .exit)) pointers (now (store .entry)))
+        → machineOf (lists (now (memory .exit)) (now (bad .entry)) (now (words .exit)) (now (bytes .exit)) (now (lines .exit)) pointers (now (store .entry)))
         (now (entries .exit)) r size
         ≡ spec.operated
-        (machineOf (lists (now (memory .entry)) (now (words .entry)) (now (bytes .entry)) (now (lines .entry)) pointers (now (store .entry)))
+        (machineOf (lists (now (memory .entry)) (now (bad .entry)) (now (words .entry)) (now (bytes .entry)) (now (lines .entry)) pointers (now (store .entry)))
         (now (entries .entry)) s size) t va)
         × (length (now (bytes .exit)) ≡ 8) ⌝ }
 {
     if t.register == 7 {
-        return operate_seven(memory, words, bytes, lines, store, s, t, va);
+        return operate_seven(memory, bad, words, bytes, lines, store, s, t, va);
     }
     if t.register == 8 {
         operate_eight(entries, t, va);
@@ -168,6 +171,7 @@ fn operate(
 // A write: the operation, then the register.
 pub fn write(
     memory: &mut [u8],
+    bad: &[u8],
     words: &mut [u64],
     bytes: &mut [[u8; 16]; 8],
     lines: &mut [u64],
@@ -180,17 +184,17 @@ pub fn write(
     requires { ⌜ (length (now entries) ≡ 32) × CleanReady (now memory) (now words) (now bytes) (now lines) (now store) s ⌝ }
     ensures { λ r.
         ⌜ ((pointers : List ℕ) (size : ℕ)
-        → steppedOf (lists (now (memory .exit)) (now (words .exit)) (now (bytes .exit)) (now (lines .exit)) pointers (now (store .entry)))
+        → steppedOf (lists (now (memory .exit)) (now (bad .entry)) (now (words .exit)) (now (bytes .exit)) (now (lines .exit)) pointers (now (store .entry)))
         (now (entries .exit)) size r
         ≡ spec.write
-        (machineOf (lists (now (memory .entry)) (now (words .entry)) (now (bytes .entry)) (now (lines .entry)) pointers (now (store .entry)))
+        (machineOf (lists (now (memory .entry)) (now (bad .entry)) (now (words .entry)) (now (bytes .entry)) (now (lines .entry)) pointers (now (store .entry)))
         (now (entries .entry)) s size) t v)
         × (length (now (bytes .exit)) ≡ 8) ⌝ }
 {
     let r = s.cp15.registers;
     let after = registers::written(r, t.register, v);
     let va = VirtualAddress(v);
-    let u = operate(memory, words, bytes, lines, store, entries, s, t, va);
+    let u = operate(memory, bad, words, bytes, lines, store, entries, s, t, va);
     Outcome {
         scalars: machine::with_registers(u, after),
         answer: Answer::Value(0),

@@ -1,5 +1,5 @@
 // A first run: a short list of calls on 64 KB of memory with page tables in it, what each answers, and the counts; the same list on the plain
-// machine; then some calls one by one, and looks.
+// machine; then some calls one by one, looks, and loads of a line with a bad word.
 
 ghost use mathlib.Core.Path.{_≡_};
 ghost use Prim.Native.Nat.{_<_};
@@ -267,6 +267,7 @@ struct Left {
 fn one_call(
     left: Left,
     memory: &mut [u8],
+    bad: &[u8],
     store: &mut [u8],
     kind: u32,
     privileged: u32,
@@ -276,7 +277,7 @@ fn one_call(
 ) -> Left {
     print_call(kind, privileged, n, a, v);
     let c = trace::call_of(kind, privileged, n, a, v);
-    let called = sa110::call(left.state, left.cp15, memory, store, c);
+    let called = sa110::call(left.state, left.cp15, memory, bad, store, c);
     let answer = called.answer;
     print_answer(answer);
     print(b"\n");
@@ -302,10 +303,10 @@ fn print_part(part: &[u8]) {
 }
 
 // Looks at an address, and prints the part.
-fn print_look<'a>(left: Left, memory: &'a [u8], store: &'a [u8], a: u32) {
+fn print_look<'a>(left: Left, memory: &'a [u8], bad: &[u8], store: &'a [u8], a: u32) {
     print(b"look at ");
     print_hex(a);
-    let part = sa110::look(left.state, left.cp15, memory, store, VirtualAddress(a));
+    let part = sa110::look(left.state, left.cp15, memory, bad, store, VirtualAddress(a));
     print_part(part);
     print(b"\n");
 }
@@ -356,8 +357,18 @@ fn print_counts(c: Counts) {
     print(b"\n");
 }
 
+// The list of calls on the plain machine: how many calls it counts.
+fn run_plain(bad: &[u8], calls: &[u32], answers: &mut [u64]) -> u32 {
+    let mut memory = [0u8; 65536];
+    set_up(&mut memory);
+    let ran = plain::run(&mut memory, bad, calls, answers);
+    let left = ran.state;
+    left.calls
+}
+
 fn main() {
     let mut memory = [0u8; 65536];
+    let mut bad = [0u8; 16384];
     let mut store = [0u8; 16384];
     let calls = CALLS;
     let mut answers = [0u64; 17];
@@ -367,30 +378,32 @@ fn main() {
         started.state,
         started.cp15,
         &mut memory,
+        &bad,
         &mut store,
         &calls,
         &mut answers,
     );
-    let mut other = [0u8; 65536];
     let mut others = [0u64; 17];
-    set_up(&mut other);
-    let plain = plain::run(&mut other, &calls, &mut others);
+    let counted = run_plain(&bad, &calls, &mut others);
     print_calls(&calls, &answers, &others);
     let state = ran.state;
     print_counts(state.counts);
-    let left = plain.state;
     print(b"plain machine: calls counted ");
-    print_two(left.calls % 100);
+    print_two(counted % 100);
     print(b"\n");
     // calls one by one, on what the run left
     let cp15 = ran.cp15;
     let start = Left { state, cp15 };
-    let first = one_call(start, &mut memory, &mut store, 1, 1, 1, 0x100013, 0);
-    let second = one_call(first, &mut memory, &mut store, 0, 1, 2, 0x200480, 0);
-    let third = one_call(second, &mut memory, &mut store, 0, 0, 4, 0x200480, 0);
-    let fourth = one_call(third, &mut memory, &mut store, 2, 1, 1, 0x100010, 256);
+    let first = one_call(start, &mut memory, &bad, &mut store, 1, 1, 1, 0x100013, 0);
+    let second = one_call(first, &mut memory, &bad, &mut store, 0, 1, 2, 0x200480, 0);
+    let third = one_call(second, &mut memory, &bad, &mut store, 0, 0, 4, 0x200480, 0);
+    let fourth = one_call(third, &mut memory, &bad, &mut store, 2, 1, 1, 0x100010, 256);
     // looks: into the cache store, into memory, and where nothing is mapped
-    print_look(fourth, &memory, &store, 0x100010);
-    print_look(fourth, &memory, &store, 0x104004);
-    print_look(fourth, &memory, &store, 0x300000);
+    print_look(fourth, &memory, &bad, &store, 0x100010);
+    print_look(fourth, &memory, &bad, &store, 0x104004);
+    print_look(fourth, &memory, &bad, &store, 0x300000);
+    // the word at 4008 now aborts: a load of the word before it is served, a load of it is not
+    bad[0x1002] = 1;
+    let fifth = one_call(fourth, &mut memory, &bad, &mut store, 0, 1, 4, 0x104004, 0);
+    one_call(fifth, &mut memory, &bad, &mut store, 0, 1, 4, 0x104008, 0);
 }

@@ -121,7 +121,7 @@ to-end l k = take-all (length l - k) (drop k l) (let e = length-drop k l in omeg
 
 -- ---- the start
 
-pub start-is : (memory store : List ℕ) (s : Started) → s ≡ started memory store
-    → partedFrom (heldFrom (s .machine) 0 0 0 0 (padded []) (padded [])) 0 0 [] (s .refusal) ≡ startReplay memory store
+pub start-is : (memory bad store : List ℕ) (s : Started) → s ≡ started memory bad store
+    → partedFrom (heldFrom (s .machine) 0 0 0 0 (padded []) (padded [])) 0 0 [] (s .refusal) ≡ startReplay memory bad store
 unfolding startReplay
-start-is memory store s e = rw e
+start-is memory bad store s e = rw e

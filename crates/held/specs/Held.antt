@@ -43,9 +43,9 @@ abbrev pub partedFrom : Held → ℕ → ℕ → List ℕ → ℕ → Parted
 partedFrom replay taken written out refusal = record { replay = replay; taken = taken; written = written; out = out; refusal = refusal }
 
 -- a start: nothing is replayed, held or waiting
-unfoldable pub startReplay : List ℕ → List ℕ → Parted
-startReplay memory store =
-    let s = started memory store in
+unfoldable pub startReplay : List ℕ → List ℕ → List ℕ → Parted
+startReplay memory bad store =
+    let s = started memory bad store in
     partedFrom (heldFrom (s .machine) 0 0 0 0 (padded []) (padded [])) 0 0 [] (s .refusal)
 
 -- Bytes are written at the front of the slice, as many as it holds; the others wait.

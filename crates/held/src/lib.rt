@@ -37,7 +37,9 @@ pub struct Part {
 
 // The start: a fresh state, with nothing replayed; 1 or 2 where the library's start is refused, else 0.
 pub fn replay_start(memory: &[u8], store: &[u8]) -> Part
-    ensures { λ r. ⌜ code.partedOf (now (memory .entry)) (now (store .entry)) [] r ≡ spec.startReplay (now (memory .entry)) (now (store .entry)) ⌝ }
+    ensures { λ r.
+        ⌜ ((bad : List ℕ)
+        → code.partedOf (now (memory .entry)) bad (now (store .entry)) [] r ≡ spec.startReplay (now (memory .entry)) bad (now (store .entry))) ⌝ }
 {
     let s = sa110::start(memory, store);
     let state = s.state;
@@ -82,8 +84,8 @@ pub fn is_kept(lines: u64, held: usize, waiting: usize, begun: [u8; 64]) -> bool
 // Writes the first n bytes of a list at the front of the slice, as many as it holds; the others wait.
 pub fn put_out(replay: Replay, bytes: &[u8], n: usize, out: &mut [u8], taken: usize) -> Part
     requires { ⌜ (n ≤ length (now bytes)) × (n ≤ 64) ⌝ }
-    ensures { λ r. ⌜ ((memory store : List ℕ) → code.partedOf memory store (now (out .exit)) r
-        ≡ spec.putOut (code.heldOf memory store replay) (take n (now (bytes .entry))) (now (out .entry)) taken) ⌝ }
+    ensures { λ r. ⌜ ((memory bad store : List ℕ) → code.partedOf memory bad store (now (out .exit)) r
+        ≡ spec.putOut (code.heldOf memory bad store replay) (take n (now (bytes .entry))) (now (out .entry)) taken) ⌝ }
 {
     let k = pieces::least(n, out.len());
     pieces::copy(bytes, k, out);
@@ -103,8 +105,8 @@ pub fn put_out(replay: Replay, bytes: &[u8], n: usize, out: &mut [u8], taken: us
 pub fn settled(b: Batch, lines: u64, text: &[u8]) -> Replay
     requires { ⌜ (b .end ≤ length (now text)) × (lines ≤ linesLimit) × (b .made ≤ 1024)
         × (b .verdict ≡ 1 → length (now text) ≤ b .end + 63) ⌝ }
-    ensures { λ r. ⌜ ((memory store : List ℕ) → code.heldOf memory store r
-        ≡ spec.settled (machineIn memory store (b .state) (b .cp15)) lines (b .made) (b .verdict) (drop (b .end) (now (text .entry)))) ⌝ }
+    ensures { λ r. ⌜ ((memory bad store : List ℕ) → code.heldOf memory bad store r
+        ≡ spec.settled (machineIn memory bad store (b .state) (b .cp15)) lines (b .made) (b .verdict) (drop (b .end) (now (text .entry)))) ⌝ }
 {
     let state = b.state;
     let cp15 = b.cp15;
@@ -136,8 +138,8 @@ pub fn settled(b: Batch, lines: u64, text: &[u8]) -> Replay
 
 // A replay that a part leaves as it was, but for what was taken and written.
 pub fn passed(replay: Replay, taken: usize, refusal: u32) -> Part
-    ensures { λ r. ⌜ ((memory store out : List ℕ) → code.partedOf memory store out r
-        ≡ spec.partedFrom (code.heldOf memory store replay) taken 0 out refusal) ⌝ }
+    ensures { λ r. ⌜ ((memory bad store out : List ℕ) → code.partedOf memory bad store out r
+        ≡ spec.partedFrom (code.heldOf memory bad store replay) taken 0 out refusal) ⌝ }
 {
     let mut after = replay;
     after.taken = taken;

@@ -25,9 +25,9 @@ mappingCode (Found e) = wordOf e
 mappingCode (Failed s d) = 2 * (d * 16 + statusOf s)
 
 -- the walk by a table base of which bits 31 to 14 count
-abbrev pub walkCode : List ℕ → ℕ → ℕ → ℕ
-walkCode memory base va = mappingCode (walk (physical memory) (base / 0x4000 * 0x4000) (record { 0 = va }))
+abbrev pub walkCode : List ℕ → List ℕ → ℕ → ℕ → ℕ
+walkCode memory bad base va = mappingCode (walk (physical memory bad) (base / 0x4000 * 0x4000) (record { 0 = va }))
 
 -- what a run of the plain machine leaves
-abbrev pub plainRanOf : List ℕ → List ℕ → PlainRan → PlainLeft
-plainRanOf memory answers r = withRefusal (leaves (plainMachine memory (r .registers) (r .calls)) answers (r .made)) (r .refusal)
+abbrev pub plainRanOf : List ℕ → List ℕ → List ℕ → PlainRan → PlainLeft
+plainRanOf memory bad answers r = withRefusal (leaves (plainMachine memory bad (r .registers) (r .calls)) answers (r .made)) (r .refusal)

@@ -40,23 +40,28 @@ fn mapping_code(m: Mapping) -> u64
     }
 }
 
-// The walk for an address: the word of a TLB entry, which is odd, or twice the fault's domain × 16 + status.
+// The walk for an address, over a memory and its map: the word of a TLB entry, which is odd, or twice the fault's domain × 16 + status.
 #[no_mangle]
-pub extern "C" fn sa110_walk(memory: &[u8], base: u32, va: u32) -> u64
-    ensures { λ r. ⌜ r ≡ spec.walkCode (now (memory .entry)) base va ⌝ }
+pub extern "C" fn sa110_walk(memory: &[u8], bad: &[u8], base: u32, va: u32) -> u64
+    ensures { λ r. ⌜ r ≡ spec.walkCode (now (memory .entry)) (now (bad .entry)) base va ⌝ }
 {
-    let m = walk::walk(memory, base / 0x4000 * 0x4000, VirtualAddress(va));
+    let m = walk::walk(memory, bad, base / 0x4000 * 0x4000, VirtualAddress(va));
     mapping_code(m)
 }
 
-// A run of the plain machine over a list of calls, five numbers each.
+// A run of the plain machine, on a memory and its map, over a list of calls, five numbers each.
 #[no_mangle]
-pub extern "C" fn sa110_plain_run(memory: &mut [u8], calls: &[u32], answers: &mut [u64]) -> PlainRan
+pub extern "C" fn sa110_plain_run(
+    memory: &mut [u8],
+    bad: &[u8],
+    calls: &[u32],
+    answers: &mut [u64],
+) -> PlainRan
     ensures { λ r.
-        ⌜ spec.plainRanOf (now (memory .exit)) (now (answers .exit)) r
-        ≡ plainRun (now (memory .entry)) (now (calls .entry)) (now (answers .entry)) ⌝ }
+        ⌜ spec.plainRanOf (now (memory .exit)) (now (bad .entry)) (now (answers .exit)) r
+        ≡ plainRun (now (memory .entry)) (now (bad .entry)) (now (calls .entry)) (now (answers .entry)) ⌝ }
 {
-    let r = plain::run(memory, calls, answers);
+    let r = plain::run(memory, bad, calls, answers);
     let s = r.state;
     let registers = s.registers;
     PlainRan {

@@ -8,7 +8,7 @@ use Rattle.values.specs.declared.Access.{Access}
 use Rattle.values.specs.declared.Search.{Search}
 use Rattle.values.specs.declared.Search.the-variants.{At, Nothing}
 use Rattle.values.specs.declared.Status.{Status}
-use Rattle.bus.specs.Physical.{aborts}
+use Rattle.bus.specs.Physical.{outside, aborts, wantedAborts}
 use Rattle.cache.specs.Dcache.{find}
 use Rattle.translation.specs.Alignment.{cleared}
 use Rattle.translation.specs.Faults.{fills, buffers, fillStatus, otherStatus, faultSet}
@@ -17,7 +17,7 @@ use Rattle.translation.specs.declared.Checked.{Checked}
 use Rattle.translation.specs.declared.Checked.the-variants.{Passed, Denied}
 use Rattle.machine.specs.Machine.{Machine, physicalOf, Stepped, steppedFrom, answersZero}
 use Rattle.reach.specs.Reach.{decision, committed, faulted}
-use Rattle.loads.specs.Loads.{loadHit, loadFill, loadUncached, loadMiss, loadFound, load}
+use Rattle.loads.specs.Loads.{loadHit, afterFill, loadFill, loadUncached, loadMiss, loadFound, load}
 use Rattle.stores.specs.Stores.{storeHit, storeBuffered, storeDirect, storeMiss, storeFound, store}
 use Rattle.swaps.specs.Swaps.{swapHit, swapDirect, swapMiss, swapFound, swap}
 use Rattle.access.specs.Access.{passed, accessAt, access}
@@ -37,20 +37,23 @@ pub chosen : {A : Type 0} (R : A → A → Type 0) (b : Bool) (x y x′ y′ : A
 chosen R true x y x′ y′ p q = p
 chosen R false x y x′ y′ p q = q
 
-module _ (m : Machine) (a : Access) where
-  fault-without : (s : Status) (d : ℕ) → Without (faulted (machineWithoutI m) s d (a .address)) (faulted m s d (a .address))
-  unfolding faulted faultSet
-  fault-without s d = refl
+fault-without : (m : Machine) (a : Access) (s : Status) (d : ℕ) → Without (faulted (machineWithoutI m) s d (a .address)) (faulted m s d (a .address))
+unfolding faulted faultSet
+fault-without m a s d = refl
 
+module _ (m : Machine) (a : Access) where
   module _ (p : Place) where
+    fill-without : Without (loadFill (machineWithoutI m) a p) (loadFill m a p)
+    unfolding loadFill afterFill
+    fill-without =
+        chosen Without (wantedAborts (physicalOf m) (p .address)) _ _ _ _ (fault-without (afterFill m a p) a (fillStatus p) (p .domain)) refl
+
     load-miss-without : Without (loadMiss (machineWithoutI m) a p) (loadMiss m a p)
-    unfolding loadMiss loadFill loadUncached
+    unfolding loadMiss loadUncached
     load-miss-without =
-        let outside = aborts (physicalOf m) (p .address) in
         rw (fills-without (m .cp15 .registers) p)
-        (chosen Without (fills (m .cp15 .registers) p) _ _ _ _
-        (chosen Without outside _ _ _ _ (fault-without (fillStatus p) (p .domain)) refl)
-        (chosen Without outside _ _ _ _ (fault-without (otherStatus p) (p .domain)) refl))
+        (chosen Without (fills (m .cp15 .registers) p) _ _ _ _ fill-without
+        (chosen Without (aborts (physicalOf m) (p .address)) _ _ _ _ (fault-without m a (otherStatus p) (p .domain)) refl))
 
     load-found-without : (x : Search) → Without (loadFound (machineWithoutI m) a p x) (loadFound m a p x)
     unfolding loadHit
@@ -60,11 +63,10 @@ module _ (m : Machine) (a : Access) where
     store-miss-without : (v : ℕ) → Without (storeMiss (machineWithoutI m) a v p) (storeMiss m a v p)
     unfolding storeMiss storeBuffered storeDirect
     store-miss-without v =
-        let outside = aborts (physicalOf m) (p .address) in
         rw (buffers-without (m .cp15 .registers) p)
         (chosen Without (buffers (m .cp15 .registers) p) _ _ _ _
-        (ap answersZero (chosen (λ (x y : Machine). x ≡ machineWithoutI y) outside _ _ _ _ refl refl))
-        (chosen Without outside _ _ _ _ (fault-without (otherStatus p) (p .domain)) refl))
+        (ap answersZero (chosen (λ (x y : Machine). x ≡ machineWithoutI y) (outside (physicalOf m) (p .address)) _ _ _ _ refl refl))
+        (chosen Without (aborts (physicalOf m) (p .address)) _ _ _ _ (fault-without m a (otherStatus p) (p .domain)) refl))
 
     store-found-without : (v : ℕ) (x : Search) → Without (storeFound (machineWithoutI m) a v p x) (storeFound m a v p x)
     unfolding storeHit
@@ -73,7 +75,7 @@ module _ (m : Machine) (a : Access) where
 
     swap-miss-without : (v : ℕ) → Without (swapMiss (machineWithoutI m) a v p) (swapMiss m a v p)
     unfolding swapMiss swapDirect storeDirect
-    swap-miss-without v = chosen Without (aborts (physicalOf m) (p .address)) _ _ _ _ (fault-without (otherStatus p) (p .domain)) refl
+    swap-miss-without v = chosen Without (aborts (physicalOf m) (p .address)) _ _ _ _ (fault-without m a (otherStatus p) (p .domain)) refl
 
     swap-found-without : (v : ℕ) (x : Search) → Without (swapFound (machineWithoutI m) a v p x) (swapFound m a v p x)
     unfolding swapHit loadHit storeHit
@@ -89,7 +91,7 @@ module _ (m : Machine) (a : Access) where
 
   at-without : (c : Checked) → Without (accessAt (machineWithoutI m) a c) (accessAt m a c)
   unfolding accessAt
-  at-without (Denied s d) = fault-without s d
+  at-without (Denied s d) = fault-without m a s d
   at-without (Passed p) = passed-without p (a .kind)
 
 pub access-without : (m : Machine) (a : Access) → Without (access (machineWithoutI m) a) (access m a)

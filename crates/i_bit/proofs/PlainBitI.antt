@@ -27,7 +27,8 @@ use Rattle.translation.specs.declared.Checked.the-variants.{Passed, Denied}
 use Rattle.registers.specs.Registers.{writtenOf}
 use Rattle.trace.specs.Fold.{answersOf, finalOf}
 use Rattle.soundness_laws.proofs.RegistersKept.{kept-twice}
-use Rattle.plain.specs.Plain.{Plain, withRegisters, PlainStepped, plainStepped, plainFaulted, plainPhysical, plainReach, plainLoad, plainStore}
+use Rattle.plain.specs.Plain.{Plain, withRegisters, PlainStepped, plainStepped, plainFaulted, plainPhysical, plainReach}
+use Rattle.plain.specs.Plain.{plainLoadAborts, plainLoad, plainStore}
 use Rattle.plain.specs.Plain.{plainPassed, plainAt, plainAccess, plainRead, plainWrite, plainDone, plainRefusal, counted, plainly, plainNext, plainAnswered}
 use Rattle.plain.specs.Plain.{plainSwap, plainAnswers, plainFinal}
 use Rattle.i_bit.specs.BitI.{numberWithoutI, registersWithoutI, answerWithoutI, answersWithoutI, AlikeAnswers, AllAlike}
@@ -57,7 +58,7 @@ module _ (p : Plain) (a : Access) where
     unfolding plainLoad
     load-without =
         rw (fills-without (p .registers) l)
-        (chosen (Without p) (aborts (plainPhysical p) (l .address)) _ _ _ _ (fault-without _ (l .domain)) (refl, refl))
+        (chosen (Without p) (plainLoadAborts p l) _ _ _ _ (fault-without _ (l .domain)) (refl, refl))
 
     store-without : (v : ℕ) → Without p (plainStore (plainWithoutI p) a v l) (plainStore p a v l)
     unfolding plainStore
@@ -70,10 +71,9 @@ module _ (p : Plain) (a : Access) where
     swap-without : (v : ℕ) → Without p (plainSwap (plainWithoutI p) a v l) (plainSwap p a v l)
     unfolding plainSwap
     swap-without v =
-        let loads = load-without in
         let stores = store-without v in
         chosen (Without p) (aborts (plainPhysical p) (l .address)) _ _ _ _ (fault-without (otherStatus l) (l .domain))
-        (rw (stores .0, loads .0), stores .1)
+        (rw (stores .0), stores .1)
 
     passed-without : (k : Kind) → Without p (plainPassed (plainWithoutI p) a l k) (plainPassed p a l k)
     passed-without Load = load-without

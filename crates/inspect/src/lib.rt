@@ -26,30 +26,31 @@ fn part_code(p: Part) -> u64
 }
 
 // A look, state and record by value.
-fn look_code(state: State, cp15: Cp15, memory: &[u8], store: &[u8], va: u32) -> u64
-    ensures { λ r. ⌜ r ≡ lookCode (machineIn (now (memory .entry)) (now (store .entry)) state cp15) va ⌝ }
+fn look_code(state: State, cp15: Cp15, memory: &[u8], bad: &[u8], store: &[u8], va: u32) -> u64
+    ensures { λ r. ⌜ r ≡ lookCode (machineIn (now (memory .entry)) (now (bad .entry)) (now (store .entry)) state cp15) va ⌝ }
 {
-    let p = sa110::shown(state, cp15, memory, store, VirtualAddress(va));
+    let p = sa110::shown(state, cp15, memory, bad, store, VirtualAddress(va));
     part_code(p)
 }
 
-// A look: which of the two lent slices has the 32 bytes of a virtual address's line, and where.
+// A look: whether memory or the cache store has the 32 bytes of a virtual address's line, and where.
 #[no_mangle]
 pub extern "C" fn sa110_look(
     state: &State,
     cp15: &Cp15,
     memory: &[u8],
+    bad: &[u8],
     store: &[u8],
     va: u32,
 ) -> u64
-    ensures { λ r. ⌜ r ≡ lookCode (machineIn (now (memory .entry)) (now (store .entry)) (now (state .entry)) (now (cp15 .entry))) va ⌝ }
+    ensures { λ r. ⌜ r ≡ lookCode (machineIn (now (memory .entry)) (now (bad .entry)) (now (store .entry)) (now (state .entry)) (now (cp15 .entry))) va ⌝ }
 {
-    look_code(*state, *cp15, memory, store, va)
+    look_code(*state, *cp15, memory, bad, store, va)
 }
 
 // The test of soundness as a number, state and record by value.
 fn sound_code(state: State, cp15: Cp15, n: usize) -> u32
-    ensures { λ r. ⌜ ((memory store : List ℕ) → length memory ≡ n → r ≡ number (sound (machineIn memory store state cp15))) ⌝ }
+    ensures { λ r. ⌜ ((memory bad store : List ℕ) → length memory ≡ n → r ≡ number (sound (machineIn memory bad store state cp15))) ⌝ }
 {
     values::bit_number(sa110::is_sound(state, cp15, n))
 }
@@ -58,8 +59,8 @@ fn sound_code(state: State, cp15: Cp15, n: usize) -> u32
 #[no_mangle]
 pub extern "C" fn sa110_sound(state: &State, cp15: &Cp15, n: usize) -> u32
     ensures { λ r.
-        ⌜ ((memory store : List ℕ) → length memory ≡ n
-        → r ≡ number (sound (machineIn memory store (now (state .entry)) (now (cp15 .entry))))) ⌝ }
+        ⌜ ((memory bad store : List ℕ) → length memory ≡ n
+        → r ≡ number (sound (machineIn memory bad store (now (state .entry)) (now (cp15 .entry))))) ⌝ }
 {
     sound_code(*state, *cp15, n)
 }

@@ -88,6 +88,7 @@ fn join(
 // A store of bytes inside memory joins the newest entry of its block, or takes a new one. It answers the number of entries.
 pub fn store(
     memory: &mut [u8],
+    bad: &[u8],
     words: &mut [u64],
     bytes: &mut [[u8; 16]; 8],
     used: usize,
@@ -97,8 +98,8 @@ pub fn store(
 ) -> usize
     requires { ⌜ Fits (now memory) (now words) (now bytes) used × Stores (now memory) pa width ⌝ }
     ensures { λ r.
-        ⌜ Left (now (memory .exit)) (now (words .exit)) (now (bytes .exit)) r
-        (spec.buffered (backingOf (now (memory .entry)) (now (words .entry)) (now (bytes .entry)) used) pa width value) ⌝ }
+        ⌜ Left (now (memory .exit)) (now (bad .entry)) (now (words .exit)) (now (bytes .exit)) r
+        (spec.buffered (backingOf (now (memory .entry)) (now (bad .entry)) (now (words .entry)) (now (bytes .entry)) used) pa width value) ⌝ }
 {
     let block = pa.0 / 16;
     let offset = pa.0 % 16;
@@ -113,6 +114,7 @@ pub fn store(
             let fresh = with_store([0u8; 16], offset as usize, width, value);
             buffer::push(
                 memory,
+                bad,
                 words,
                 bytes,
                 used,

@@ -23,5 +23,5 @@ calledBy m kind privileged n a v =
     cond (isCall kind privileged) (codedOf (served m (callOf kind privileged n a v))) (record { machine = m; code = noCall })
 
 -- what the function answers, with the lent bytes
-abbrev pub answeredOf : List ℕ → List ℕ → Answered → Coded
-answeredOf memory store r = record { machine = machineIn memory store (r .state) (r .cp15); code = r .code }
+abbrev pub answeredOf : List ℕ → List ℕ → List ℕ → Answered → Coded
+answeredOf memory bad store r = record { machine = machineIn memory bad store (r .state) (r .cp15); code = r .code }

@@ -2,11 +2,11 @@
 ghost use mathlib.Core.Path.{_≡_};
 ghost use mathlib.Core.Bool.{true, false};
 ghost use mathlib.Core.List.{List};
-ghost use Prim.Native.Nat.{ℕ, _<_, _≤_, _+_, _*_, _/_, _%_};
-ghost use lib.ListN.{length, getD};
+ghost use Prim.Native.Nat.{ℕ, _<_, _≤_, _+_};
+ghost use lib.ListN.{length};
 ghost use Rattle.values.specs.Counts.{countLimit};
 ghost use Rattle.words.specs.Words.{isWidth};
-ghost use Rattle.bus.specs.Physical.{physical, aborts};
+ghost use Rattle.bus.specs.Physical.{physical, aborts, wantedAborts, lineAborts};
 ghost use Rattle.translation.specs.Alignment as aligned;
 ghost use Rattle.translation.specs.Ranges.{PlaceRanged};
 ghost use Rattle.machine.specs.Lists.{Lists, lists, machineOf, steppedOf, Leaves, LeavesBelow};
@@ -20,8 +20,8 @@ use machine::Scalars;
 use translation::Place;
 use values::Access;
 use values::Count;
+use values::PhysicalAddress;
 use values::Search;
-use values::VirtualAddress;
 
 // A load from line i.
 pub fn load_hit(store: &[u8], s: Scalars, a: Access, i: usize) -> Outcome
@@ -39,26 +39,33 @@ pub fn load_hit(store: &[u8], s: Scalars, a: Access, i: usize) -> Outcome
     }
 }
 
-// The line at the pointer of the address's set.
-fn victim(pointers: &[u32], va: VirtualAddress) -> usize
-    requires { ⌜ (length (now pointers) ≡ 16) × (getD (now pointers) (va .0 / 32 % 16) 0 < 32) ⌝ }
-    ensures { λ r. ⌜ (r ≡ va .0 / 32 % 16 * 32 + getD (now (pointers .entry)) (va .0 / 32 % 16) 0) × (r < 512) ⌝ }
-{
-    let s = (va.0 / 32 % 16) as usize;
-    s * 32 + pointers[s] as usize
-}
-
-// Another fill, so many halves sent out, and so many buffer entries.
-fn after_fill(s: Scalars, used: usize, halves: Count) -> Scalars
+// So many halves sent out, so many buffer entries, and another fill but where a word of the line aborts.
+fn after_fill(s: Scalars, used: usize, halves: Count, aborts: bool) -> Scalars
     requires { ⌜ (s .counts .fills < countLimit) × (s .counts .halves + halves ≤ countLimit) ⌝ }
-    ensures { λ r. ⌜ r ≡ filledBy s used halves ⌝ }
+    ensures { λ r. ⌜ r ≡ filledBy s used halves aborts ⌝ }
 {
-    machine::with_used(machine::sent(machine::filled(s), halves), used)
+    let sent = machine::with_used(machine::sent(s, halves), used);
+    if aborts {
+        return sent;
+    }
+    machine::filled(sent)
 }
 
-// A load that fills a line and is served from it.
+// Whether the wanted word or one before it in its line aborts. `aborts` says whether any word of the line does.
+fn wanted(memory: &[u8], bad: &[u8], pa: PhysicalAddress, aborts: bool) -> bool
+    requires { ⌜ aborts ≡ lineAborts (physical (now memory) (now bad)) pa ⌝ }
+    ensures { λ r. ⌜ r ≡ wantedAborts (physical (now (memory .entry)) (now (bad .entry))) pa ⌝ }
+{
+    if aborts {
+        return bus::wanted_aborts(memory, bad, pa);
+    }
+    false
+}
+
+// A load that fills a line: it is served by the word read, or faults.
 fn load_fill(
     memory: &mut [u8],
+    bad: &[u8],
     words: &mut [u64],
     bytes: &mut [[u8; 16]; 8],
     lines: &mut [u64],
@@ -68,18 +75,25 @@ fn load_fill(
     a: Access,
     p: Place,
 ) -> Outcome
-    requires { ⌜ SideReady (lists (now memory) (now words) (now bytes) (now lines) (now pointers) (now store)) s
-        × (isWidth (a .width) ≡ true) × (aborts (physical (now memory)) (p .address) ≡ false) ⌝ }
+    requires { ⌜ SideReady (lists (now memory) (now bad) (now words) (now bytes) (now lines) (now pointers) (now store)) s
+        × (isWidth (a .width) ≡ true) × PlaceRanged (aligned.cleared a) p ⌝ }
     ensures { λ r.
-        ⌜ Leaves (lists (now (memory .entry)) (now (words .entry)) (now (bytes .entry)) (now (lines .entry)) (now (pointers .entry)) (now (store .entry))) s
-        (lists (now (memory .exit)) (now (words .exit)) (now (bytes .exit)) (now (lines .exit)) (now (pointers .exit)) (now (store .exit))) r
+        ⌜ Leaves
+        (lists (now (memory .entry)) (now (bad .entry)) (now (words .entry)) (now (bytes .entry)) (now (lines .entry)) (now (pointers .entry))
+        (now (store .entry))) s
+        (lists (now (memory .exit)) (now (bad .entry)) (now (words .exit)) (now (bytes .exit)) (now (lines .exit)) (now (pointers .exit))
+        (now (store .exit))) r
         (λ (m : Machine). spec.loadFill m a p) ⌝ }
 {
     let va = translation::cleared(a);
+    let pa = p.address;
     let k = a.kind;
-    let i = victim(pointers, va);
+    let address = a.address;
+    let aborts = bus::line_aborts(memory, bad, pa);
+    let faults = wanted(memory, bad, pa, aborts);
     let sent = fills::fill(
         memory,
+        bad,
         words,
         bytes,
         s.used,
@@ -87,11 +101,16 @@ fn load_fill(
         pointers,
         store,
         va,
-        p.address,
+        pa,
+        aborts,
     );
-    let v = cache::load(store, i, va, a.width);
+    let after = after_fill(s, sent.used, sent.halves, aborts);
+    if faults {
+        return reach::faulted(after, translation::fill_status(p), p.domain, address);
+    }
+    let v = words::load(memory, pa.0 as usize, a.width);
     Outcome {
-        scalars: after_fill(s, sent.used, sent.halves),
+        scalars: after,
         answer: translation::load_answer(k, a.width, v),
     }
 }
@@ -99,20 +118,22 @@ fn load_fill(
 // A load from memory, once the buffer holds no byte of it.
 fn load_uncached(
     memory: &mut [u8],
+    bad: &[u8],
     words: &mut [u64],
     bytes: &mut [[u8; 16]; 8],
     s: Scalars,
     a: Access,
     p: Place,
 ) -> Outcome
-    requires { ⌜ MissReady (now memory) (now words) (now bytes) (s .used) a p × (aborts (physical (now memory)) (p .address) ≡ false) ⌝ }
+    requires { ⌜ MissReady (now memory) (now words) (now bytes) (s .used) a p × (aborts (physical (now memory) (now bad)) (p .address) ≡ false) ⌝ }
     ensures { λ r.
-        ⌜ LeavesBelow (now (memory .entry)) (now (words .entry)) (now (bytes .entry)) s (now (memory .exit)) (now (words .exit)) (now (bytes .exit)) r
+        ⌜ LeavesBelow (now (memory .entry)) (now (bad .entry)) (now (words .entry)) (now (bytes .entry)) s (now (memory .exit)) (now (words .exit))
+        (now (bytes .exit)) r
         (λ (m : Machine). spec.loadUncached m a p) ⌝ }
 {
     let pa = p.address;
     let k = a.kind;
-    let used = masks::ready_access(memory, words, bytes, s.used, pa, a.width);
+    let used = masks::ready_access(memory, bad, words, bytes, s.used, pa, a.width);
     let v = words::load(memory, pa.0 as usize, a.width);
     Outcome {
         scalars: machine::with_used(s, used),
@@ -120,24 +141,10 @@ fn load_uncached(
     }
 }
 
-// A load whose word aborts.
-fn load_aborted(s: Scalars, a: Access, p: Place) -> Outcome
-    requires { ⌜ p .domain < 16 ⌝ }
-    ensures { λ r.
-        ⌜ ((l : Lists) (entries : List ℕ) (size : ℕ) → aborts (physical (l .memory)) (p .address) ≡ true
-        → steppedOf l entries size r ≡ spec.loadMiss (machineOf l entries s size) a p) ⌝ }
-{
-    let r = s.cp15.registers;
-    let address = a.address;
-    if translation::fills(r, p) {
-        return reach::faulted(s, translation::fill_status(p), p.domain, address);
-    }
-    reach::faulted(s, translation::other_status(p), p.domain, address)
-}
-
 // A load that misses.
 fn load_miss(
     memory: &mut [u8],
+    bad: &[u8],
     words: &mut [u64],
     bytes: &mut [[u8; 16]; 8],
     lines: &mut [u64],
@@ -147,26 +154,29 @@ fn load_miss(
     a: Access,
     p: Place,
 ) -> Outcome
-    requires { ⌜ SideReady (lists (now memory) (now words) (now bytes) (now lines) (now pointers) (now store)) s
+    requires { ⌜ SideReady (lists (now memory) (now bad) (now words) (now bytes) (now lines) (now pointers) (now store)) s
         × (isWidth (a .width) ≡ true) × PlaceRanged (aligned.cleared a) p ⌝ }
     ensures { λ r.
-        ⌜ Leaves (lists (now (memory .entry)) (now (words .entry)) (now (bytes .entry)) (now (lines .entry)) (now (pointers .entry)) (now (store .entry))) s
-        (lists (now (memory .exit)) (now (words .exit)) (now (bytes .exit)) (now (lines .exit)) (now (pointers .exit)) (now (store .exit))) r
+        ⌜ Leaves (lists (now (memory .entry)) (now (bad .entry)) (now (words .entry)) (now (bytes .entry)) (now (lines .entry)) (now (pointers .entry))
+        (now (store .entry))) s
+        (lists (now (memory .exit)) (now (bad .entry)) (now (words .exit)) (now (bytes .exit)) (now (lines .exit)) (now (pointers .exit)) (now (store .exit))) r
         (λ (m : Machine). spec.loadMiss m a p) ⌝ }
 {
     let r = s.cp15.registers;
-    if bus::aborts(memory, p.address) {
-        return load_aborted(s, a, p);
-    }
     if translation::fills(r, p) {
-        return load_fill(memory, words, bytes, lines, pointers, store, s, a, p);
+        return load_fill(memory, bad, words, bytes, lines, pointers, store, s, a, p);
     }
-    load_uncached(memory, words, bytes, s, a, p)
+    if bus::aborts(memory, bad, p.address) {
+        let address = a.address;
+        return reach::faulted(s, translation::other_status(p), p.domain, address);
+    }
+    load_uncached(memory, bad, words, bytes, s, a, p)
 }
 
 // A load: the Dcache is searched, even when disabled.
 pub fn load(
     memory: &mut [u8],
+    bad: &[u8],
     words: &mut [u64],
     bytes: &mut [[u8; 16]; 8],
     lines: &mut [u64],
@@ -176,17 +186,18 @@ pub fn load(
     a: Access,
     p: Place,
 ) -> Outcome
-    requires { ⌜ SideReady (lists (now memory) (now words) (now bytes) (now lines) (now pointers) (now store)) s
+    requires { ⌜ SideReady (lists (now memory) (now bad) (now words) (now bytes) (now lines) (now pointers) (now store)) s
         × (isWidth (a .width) ≡ true) × PlaceRanged (aligned.cleared a) p ⌝ }
     ensures { λ r.
-        ⌜ Leaves (lists (now (memory .entry)) (now (words .entry)) (now (bytes .entry)) (now (lines .entry)) (now (pointers .entry)) (now (store .entry))) s
-        (lists (now (memory .exit)) (now (words .exit)) (now (bytes .exit)) (now (lines .exit)) (now (pointers .exit)) (now (store .exit))) r
+        ⌜ Leaves (lists (now (memory .entry)) (now (bad .entry)) (now (words .entry)) (now (bytes .entry)) (now (lines .entry)) (now (pointers .entry))
+        (now (store .entry))) s
+        (lists (now (memory .exit)) (now (bad .entry)) (now (words .exit)) (now (bytes .exit)) (now (lines .exit)) (now (pointers .exit)) (now (store .exit))) r
         (λ (m : Machine). spec.load m a p) ⌝ }
 {
     let va = translation::cleared(a);
     let found = cache::find(lines, va);
     match found {
         Search::At(i) => load_hit(store, s, a, i),
-        Search::Nothing => load_miss(memory, words, bytes, lines, pointers, store, s, a, p),
+        Search::Nothing => load_miss(memory, bad, words, bytes, lines, pointers, store, s, a, p),
     }
 }

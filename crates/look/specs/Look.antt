@@ -36,7 +36,8 @@ foundLine m va Nothing =
     cond (mmu (m .cp15 .registers)) (walkedLine (length (memoryOf m)) va (walk (physicalOf m) (m .cp15 .registers .base) va))
     (memoryLine (length (memoryOf m)) (flat va))
 
--- the part shown; "Under 1 to 4 (no number is returned) ... it shows an empty part"
+-- the part shown; "Under 1 to 4 (no number is returned) ... it shows an empty part"; document 02, Five: "A look meets 16 too; only its walk heeds the
+-- map."
 unfoldable pub shown : Machine → VirtualAddress → Part
 shown m va = cond (eqb (stateRefusal m) 0) (foundLine m va (find (m .side .cache .lines) va)) Empty
 

@@ -47,24 +47,31 @@ fn mapped_line(n: usize, va: VirtualAddress, m: Mapping) -> Part
 }
 
 // The line of a virtual address in memory: by a walk past the TLB, or flat.
-fn uncached_line(memory: &[u8], r: Registers, va: VirtualAddress) -> Part
+fn uncached_line(memory: &[u8], bad: &[u8], r: Registers, va: VirtualAddress) -> Part
     requires { ⌜ r .base % 0x4000 ≡ 0 ⌝ }
     ensures { λ x.
-        ⌜ x ≡ cond (mmu r) (looks.walkedLine (length (now (memory .entry))) va (walk (physical (now (memory .entry))) (r .base) va))
+        ⌜ x ≡ cond (mmu r) (looks.walkedLine (length (now (memory .entry))) va (walk (physical (now (memory .entry)) (now (bad .entry))) (r .base) va))
         (looks.memoryLine (length (now (memory .entry))) (flat va)) ⌝ }
 {
     if values::mmu(r) {
-        let m = walk::walk(memory, r.base, va);
+        let m = walk::walk(memory, bad, r.base, va);
         return mapped_line(memory.len(), va, m);
     }
     memory_line(memory.len(), PhysicalAddress(va.0))
 }
 
 // The part that a look shows.
-pub fn shown(state: State, cp15: Cp15, memory: &[u8], store: &[u8], va: VirtualAddress) -> Part
-    ensures { λ r. ⌜ r ≡ looks.shown (machineIn (now (memory .entry)) (now (store .entry)) state cp15) va ⌝ }
+pub fn shown(
+    state: State,
+    cp15: Cp15,
+    memory: &[u8],
+    bad: &[u8],
+    store: &[u8],
+    va: VirtualAddress,
+) -> Part
+    ensures { λ r. ⌜ r ≡ looks.shown (machineIn (now (memory .entry)) (now (bad .entry)) (now (store .entry)) state cp15) va ⌝ }
 {
-    if state::state_refusal(state, cp15, memory, store) != 0 {
+    if state::state_refusal(state, cp15, memory, bad, store) != 0 {
         return Part::Empty;
     }
     let lines = state.lines;
@@ -72,7 +79,7 @@ pub fn shown(state: State, cp15: Cp15, memory: &[u8], store: &[u8], va: VirtualA
     let found = cache::find(&lines, va);
     match found {
         Search::At(i) => Part::OfStore(i),
-        Search::Nothing => uncached_line(memory, registers, va),
+        Search::Nothing => uncached_line(memory, bad, registers, va),
     }
 }
 
@@ -89,12 +96,13 @@ pub fn look<'a>(
     state: State,
     cp15: Cp15,
     memory: &'a [u8],
+    bad: &[u8],
     store: &'a [u8],
     va: VirtualAddress,
 ) -> &'a [u8]
-    ensures { λ r. ⌜ now r ≡ looks.look (machineIn (now (memory .entry)) (now (store .entry)) state cp15) va ⌝ }
+    ensures { λ r. ⌜ now r ≡ looks.look (machineIn (now (memory .entry)) (now (bad .entry)) (now (store .entry)) state cp15) va ⌝ }
 {
-    let place = shown(state, cp15, memory, store, va);
+    let place = shown(state, cp15, memory, bad, store, va);
     match place {
         Part::OfStore(i) => line_part(store, i),
         Part::OfMemory(i) => line_part(memory, i),

@@ -11,6 +11,6 @@ use Rattle.machine.specs.Lists.{Lists, lists, machineOf}
 use Rattle.machine.specs.declared.Scalars.{Scalars}
 
 pub drain-left : (es : List ℕ) (s r : Scalars) (n : ℕ) (l : Lists) (m ws : List ℕ) (bs : List (List ℕ)) → r ≡ withUsed s 0
-    → Left m ws bs 0 (drained (backingOf (l .memory) (l .words) (l .bytes) (s .used)))
-    → machineOf (lists m ws bs (l .lines) (l .pointers) (l .store)) es r n ≡ drainedAll (machineOf l es s n)
+    → Left m (l .bad) ws bs 0 (drained (backingOf (l .memory) (l .bad) (l .words) (l .bytes) (s .used)))
+    → machineOf (lists m (l .bad) ws bs (l .lines) (l .pointers) (l .store)) es r n ≡ drainedAll (machineOf l es s n)
 drain-left es s r n l m ws bs g e = rw g (ap (withBacking (machineOf l es s n)) (e .same))

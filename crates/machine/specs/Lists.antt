@@ -12,20 +12,21 @@ use Rattle.machine.specs.declared.Outcome.{Outcome}
 -- the lists that the data side of the machine is lent
 pub record Lists : Type 0 where
   pub memory : List ℕ
+  pub bad : List ℕ
   pub words : List ℕ
   pub bytes : List (List ℕ)
   pub lines : List ℕ
   pub pointers : List ℕ
   pub store : List ℕ
 
-abbrev pub lists : List ℕ → List ℕ → List (List ℕ) → List ℕ → List ℕ → List ℕ → Lists
-lists memory words bytes lines pointers store =
-    record { memory = memory; words = words; bytes = bytes; lines = lines; pointers = pointers; store = store }
+abbrev pub lists : List ℕ → List ℕ → List ℕ → List (List ℕ) → List ℕ → List ℕ → List ℕ → Lists
+lists memory bad words bytes lines pointers store =
+    record { memory = memory; bad = bad; words = words; bytes = bytes; lines = lines; pointers = pointers; store = store }
 
 -- the machine that the lists, the TLB's words and the scalars stand for; `size` is the memory's length at the start
 abbrev pub machineOf : Lists → List ℕ → Scalars → ℕ → Machine
 machineOf l entries s size =
-    machineFrom (s .cp15) (entriesOf entries) (sideOf (l .memory) (l .words) (l .bytes) (s .used) (l .lines) (l .pointers) (l .store)) (s .counts) size
+    machineFrom (s .cp15) (entriesOf entries) (sideOf (l .memory) (l .bad) (l .words) (l .bytes) (s .used) (l .lines) (l .pointers) (l .store)) (s .counts) size
 
 abbrev pub steppedOf : Lists → List ℕ → ℕ → Outcome → Stepped
 steppedOf l entries size o = steppedFrom (machineOf l entries (o .scalars) size) (o .answer)
@@ -42,8 +43,8 @@ pub record Leaves (l : Lists) (s : Scalars) (k : Lists) (o : Outcome) (f : Machi
   pub bytes-long : length (k .bytes) ≡ 8
 
 -- the same of a function that is lent neither lines nor pointers nor cache store
-abbrev pub LeavesBelow : (memory words : List ℕ) (bytes : List (List ℕ)) → Scalars → (memory′ words′ : List ℕ) (bytes′ : List (List ℕ)) → Outcome
+abbrev pub LeavesBelow : (memory bad words : List ℕ) (bytes : List (List ℕ)) → Scalars → (memory′ words′ : List ℕ) (bytes′ : List (List ℕ)) → Outcome
     → (Machine → Stepped) → Type 0
-LeavesBelow memory words bytes s memory′ words′ bytes′ o f =
+LeavesBelow memory bad words bytes s memory′ words′ bytes′ o f =
     (lines pointers store : List ℕ)
-    → Leaves (lists memory words bytes lines pointers store) s (lists memory′ words′ bytes′ lines pointers store) o f
+    → Leaves (lists memory bad words bytes lines pointers store) s (lists memory′ bad words′ bytes′ lines pointers store) o f

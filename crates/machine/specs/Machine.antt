@@ -11,12 +11,13 @@ use Rattle.values.specs.declared.Counts.{Counts}
 use Rattle.values.specs.declared.Entry.{Entry}
 use Rattle.values.specs.declared.Answer.{Answer}
 use Rattle.values.specs.declared.Answer.the-variants as answer
-use Rattle.bus.specs.Physical.{Physical, physical}
-use Rattle.buffer.specs.Buffer.{Backing, backingFrom, emptyBuffer, drained}
+use Rattle.bus.specs.Physical.{Physical}
+use Rattle.buffer.specs.Buffer.{Backing, backingFrom, physicalBehind, emptyBuffer, drained}
 use Rattle.cache.specs.Dcache.{Dcache, Side, dcacheFrom, sideFrom}
 
--- State, record, memory and cache store together. The state is the memory's length at the start, the TLB's entries, the Dcache's lines and
--- pointers, the buffer and the counts; the record is `cp15`; memory and cache store are lent as lists of bytes.
+-- State, record, memory, map and cache store together. The state is the memory's length at the start, the TLB's entries, the Dcache's lines and
+-- pointers, the buffer and the counts; the record is `cp15`; memory and cache store are lent as lists of bytes, and so is the map of bad words, which
+-- no call changes.
 pub record Machine : Type 0 where
   pub cp15 : Cp15
   pub entries : List Entry
@@ -31,12 +32,15 @@ machineFrom cp15 entries side counts size = record { cp15 = cp15; entries = entr
 abbrev pub memoryOf : Machine → List ℕ
 memoryOf m = m .side .backing .memory
 
+abbrev pub badOf : Machine → List ℕ
+badOf m = m .side .backing .bad
+
 abbrev pub storeOf : Machine → List ℕ
 storeOf m = m .side .cache .store
 
 -- physical memory as the bus sees it
 abbrev pub physicalOf : Machine → Physical
-physicalOf m = physical (memoryOf m)
+physicalOf m = physicalBehind (m .side .backing)
 
 -- ---- the machine with one part replaced
 
@@ -71,10 +75,10 @@ drainedAll m = withBacking m (drained (m .side .backing))
 -- ---- the start
 
 -- "A start call makes a fresh state: registers zero, TLB, cache and buffer empty, pointers and counts zero. It writes to no lent bytes."
--- `size` is the memory's length for a served start, and 0 in "a state all zeros".
-unfoldable pub fresh : ℕ → List ℕ → List ℕ → Machine
-fresh size memory store =
-    machineFrom zeroCp15 noEntries (sideFrom (dcacheFrom noLines (replicate 16 0) store) (backingFrom memory emptyBuffer)) zeroCounts size
+-- `size` is the memory's length for a served start, and 0 in "a state all zeros". `bad` is the map that later calls are lent.
+unfoldable pub fresh : ℕ → List ℕ → List ℕ → List ℕ → Machine
+fresh size memory bad store =
+    machineFrom zeroCp15 noEntries (sideFrom (dcacheFrom noLines (replicate 16 0) store) (backingFrom memory bad emptyBuffer)) zeroCounts size
 
 -- ---- a machine and what it answers
 

@@ -1,6 +1,6 @@
 -- What the code of an access asks of the lent lists and of the scalars. The test of soundness gives it.
 use Prim.Native.Nat.{ℕ, _+_, _*_, _%_, _<_, _≤_}
-use mathlib.Core.Bool.{true}
+use mathlib.Core.Bool.{true, _||_}
 use mathlib.Core.Path.{_≡_}
 use mathlib.Core.List.{List}
 use lib.ListN.{length, getD}
@@ -21,7 +21,7 @@ pub record TlbReady (entries : List ℕ) (s : Scalars) : Type 0 where
   pub base : s .cp15 .registers .base % 0x4000 ≡ 0
   pub misses : s .counts .misses < countLimit
 
--- of the data side: lengths, buffer entries and lines inside memory, pointers in range, and room in the counts
+-- of the data side: lengths, buffer entries and valid lines inside memory, dirty lines valid, pointers in range, and room in the counts
 pub record SideReady (l : Lists) (s : Scalars) : Type 0 where
   pub fits : Fits (l .memory) (l .words) (l .bytes) (s .used)
   pub lines-long : length (l .lines) ≡ 512
@@ -30,8 +30,9 @@ pub record SideReady (l : Lists) (s : Scalars) : Type 0 where
   pub whole : length (l .memory) % 32 ≡ 0
   pub short : length (l .memory) ≤ 0x1000000
   pub pointers-low : (n : ℕ) → n < 16 → getD (l .pointers) n 0 < 32
-  pub lines-inside : (i : ℕ) → i < 512 → 0 < length (l .memory) → lineOf (getD (l .lines) i 0) .frame * 32 + 32 ≤ length (l .memory)
-  pub lines-held : (i : ℕ) → i < 512 → lineOf (getD (l .lines) i 0) .valid ≡ true → 0 < length (l .memory)
+  pub lines-inside : (i : ℕ) → i < 512 → lineOf (getD (l .lines) i 0) .valid ≡ true → lineOf (getD (l .lines) i 0) .frame * 32 + 32 ≤ length (l .memory)
+  pub lines-dirty : (i : ℕ) → i < 512 → (lineOf (getD (l .lines) i 0) .low || lineOf (getD (l .lines) i 0) .high) ≡ true
+      → lineOf (getD (l .lines) i 0) .valid ≡ true
   pub hits : s .counts .hits < countLimit
   pub fills : s .counts .fills < countLimit
   pub halves : (i : ℕ) → i < 512 → s .counts .halves + dirtyHalves (lineOf (getD (l .lines) i 0)) ≤ countLimit

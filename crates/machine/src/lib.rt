@@ -118,13 +118,19 @@ pub fn with_pointer(s: Scalars, pointer: u32) -> Scalars
 }
 
 // The buffer is drained.
-pub fn drain(memory: &mut [u8], words: &mut [u64], bytes: &mut [[u8; 16]; 8], s: Scalars) -> Scalars
+pub fn drain(
+    memory: &mut [u8],
+    bad: &[u8],
+    words: &mut [u64],
+    bytes: &mut [[u8; 16]; 8],
+    s: Scalars,
+) -> Scalars
     requires { ⌜ Fits (now memory) (now words) (now bytes) (s .used) ⌝ }
     ensures { λ r.
-        ⌜ (r ≡ spec.withUsed s 0) × Left (now (memory .exit)) (now (words .exit)) (now (bytes .exit)) 0
-        (drained (backingOf (now (memory .entry)) (now (words .entry)) (now (bytes .entry)) (s .used))) ⌝ }
+        ⌜ (r ≡ spec.withUsed s 0) × Left (now (memory .exit)) (now (bad .entry)) (now (words .exit)) (now (bytes .exit)) 0
+        (drained (backingOf (now (memory .entry)) (now (bad .entry)) (now (words .entry)) (now (bytes .entry)) (s .used))) ⌝ }
 {
     let b = *bytes;
-    *bytes = buffer::drain(memory, words, b, s.used);
+    *bytes = buffer::drain(memory, bad, words, b, s.used);
     with_used(s, 0)
 }

@@ -14,7 +14,8 @@ use Rattle.translation.specs.Alignment.{cleared}
 use Rattle.translation.specs.Translation.{translation, walkedOnly, checkedBy, decided}
 use Rattle.translation.specs.Faults.{faultSet}
 use Rattle.values.specs.Rows.{firstMet}
-use Rattle.bus.specs.Physical.{aborts}
+use Rattle.bus.specs.Physical.{isBad, aborts, abortsWithin}
+use Rattle.refusals.specs.Refusals.{mapFits}
 use Rattle.reach.specs.Reach as reach
 use Rattle.loads.specs.Loads as loads
 use Rattle.stores.specs.Stores as stores
@@ -32,14 +33,14 @@ use Rattle.plain.specs.Plain as plain
 
 unfoldable pub computing : Unit {0}
 unfolding kept listed controlRead all any sum firstFrom stored valueAt signedBy rights descriptorAt first second walk covers lookup translated apOf
-    placed flushed dropped buffer.laid buffer.oldestLeft buffer.leaving buffer.drained buffer.behind buffer.pushed buffer.halfPushed buffer.newestOf
-    buffer.joined buffer.buffered buffer.meets buffer.holds buffer.ready cache.find cache.hitLoad cache.hitStore cache.halvesSent cache.lineRead
-    cache.filled cache.cleanedAt cache.cleaned cache.flushedAt cache.lineFlushed cache.allFlushed fresh sound tagsSound tagTwice entrySound lineSound
-    slotSound bufferSound registersSound countsSound zeroOutside cleared translation walkedOnly checkedBy faultSet decided aborts firstMet
-    reach.decision reach.committed reach.faulted loads.loadHit loads.loadFill loads.loadUncached loads.loadMiss loads.load stores.storeHit
-    stores.storeBuffered stores.storeDirect stores.storeMiss stores.store swaps.swapHit swaps.swapDirect swaps.swapMiss swaps.swap
-    access.accessAt access.access readOf writtenOf cp15.operated cp15.read
-    cp15.write refusal stateRefusal startRefusal started served answersOf finalOf
+    placed flushed dropped buffer.laid buffer.goodWords buffer.oldestLeft buffer.leaving buffer.drained buffer.behind buffer.pushed buffer.halfPushed
+    buffer.newestOf buffer.joined buffer.buffered buffer.meets buffer.holds buffer.ready cache.find cache.hitLoad cache.hitStore cache.halvesSent
+    cache.gaveWay cache.lineRead cache.filled cache.cleanedAt cache.cleaned cache.flushedAt cache.lineFlushed cache.allFlushed fresh sound tagsSound
+    tagTwice entrySound lineSound slotSound bufferSound registersSound countsSound zeroOutside cleared translation walkedOnly checkedBy faultSet decided
+    isBad aborts abortsWithin mapFits firstMet reach.decision reach.committed reach.faulted loads.loadHit loads.afterFill loads.loadFill
+    loads.loadUncached loads.loadMiss loads.load stores.storeHit stores.storeBuffered stores.storeDirect stores.storeMiss stores.store swaps.swapHit
+    swaps.swapDirect swaps.swapMiss swaps.swap access.accessAt access.access readOf writtenOf cp15.operated cp15.read cp15.write refusal stateRefusal
+    startRefusal started served answersOf finalOf
 computing = tt
 
 unfoldable pub computingPlainly : Unit {0}

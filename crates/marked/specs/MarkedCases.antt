@@ -8,6 +8,7 @@ use mathlib.Core.Path.{_≡_}
 use lib.IntN.{pos, negsuc}
 use lib.ListN.{replicate}
 use Rattle.values.specs.Addresses.{setOf, tagOf}
+use Rattle.bus.specs.Physical.{noBadWords}
 use Rattle.values.specs.declared.VirtualAddress.{VirtualAddress}
 use Rattle.values.specs.declared.Call.{Call}
 use Rattle.values.specs.declared.Call.the-variants.{Read, Write}
@@ -76,12 +77,13 @@ RunWith = ℕ → ℕ → Run
 abbrev pub registers : ℕ → ℕ → Registers
 registers domains control = withDomains (withBase (withControl zeroRegisters control) 0x4000) domains
 
--- those of the library
+-- those of the library, with a map of zeros
 abbrev pub run : Run
-run memory calls = answers (started memory (replicate 16384 0) .machine) calls
+run memory calls = answers (started memory (noBadWords memory) (replicate 16384 0) .machine) calls
 
 abbrev pub runWith : RunWith
-runWith domains control memory calls = answers (withRegisters (started memory (replicate 16384 0) .machine) (registers domains control)) calls
+runWith domains control memory calls =
+    answers (withRegisters (started memory (noBadWords memory) (replicate 16384 0) .machine) (registers domains control)) calls
 
 abbrev pub fault : Status → ℕ → ℕ → Answer
 fault status domain address = Fault (record { status = status; domain = domain; address = record { 0 = address } })

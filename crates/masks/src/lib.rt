@@ -74,6 +74,7 @@ fn holds_line(words: &[u64], used: usize, frame: u32) -> bool
 // Before a line is read, the buffer is drained if an entry masks a byte of it. It answers the number of entries.
 pub fn ready_line(
     memory: &mut [u8],
+    bad: &[u8],
     words: &mut [u64],
     bytes: &mut [[u8; 16]; 8],
     used: usize,
@@ -81,12 +82,12 @@ pub fn ready_line(
 ) -> usize
     requires { ⌜ Fits (now memory) (now words) (now bytes) used ⌝ }
     ensures { λ r.
-        ⌜ Left (now (memory .exit)) (now (words .exit)) (now (bytes .exit)) r
-        (spec.ready (backingOf (now (memory .entry)) (now (words .entry)) (now (bytes .entry)) used) (frame * 32) 32) ⌝ }
+        ⌜ Left (now (memory .exit)) (now (bad .entry)) (now (words .exit)) (now (bytes .exit)) r
+        (spec.ready (backingOf (now (memory .entry)) (now (bad .entry)) (now (words .entry)) (now (bytes .entry)) used) (frame * 32) 32) ⌝ }
 {
     if holds_line(words, used, frame) {
         let b = *bytes;
-        *bytes = buffer::drain(memory, words, b, used);
+        *bytes = buffer::drain(memory, bad, words, b, used);
         return 0;
     }
     used
@@ -95,6 +96,7 @@ pub fn ready_line(
 // Before an access is read from memory, the buffer is drained if an entry masks a byte of it. It answers the number of entries.
 pub fn ready_access(
     memory: &mut [u8],
+    bad: &[u8],
     words: &mut [u64],
     bytes: &mut [[u8; 16]; 8],
     used: usize,
@@ -103,12 +105,12 @@ pub fn ready_access(
 ) -> usize
     requires { ⌜ Fits (now memory) (now words) (now bytes) used × (isWidth width ≡ true) × (pa .0 % 16 + width ≤ 16) ⌝ }
     ensures { λ r.
-        ⌜ Left (now (memory .exit)) (now (words .exit)) (now (bytes .exit)) r
-        (spec.ready (backingOf (now (memory .entry)) (now (words .entry)) (now (bytes .entry)) used) (pa .0) width) ⌝ }
+        ⌜ Left (now (memory .exit)) (now (bad .entry)) (now (words .exit)) (now (bytes .exit)) r
+        (spec.ready (backingOf (now (memory .entry)) (now (bad .entry)) (now (words .entry)) (now (bytes .entry)) used) (pa .0) width) ⌝ }
 {
     if holds_access(words, used, pa, width) {
         let b = *bytes;
-        *bytes = buffer::drain(memory, words, b, used);
+        *bytes = buffer::drain(memory, bad, words, b, used);
         return 0;
     }
     used

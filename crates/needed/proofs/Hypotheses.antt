@@ -69,7 +69,7 @@ all-numbers (c ∷ cs) e =
     (numbers c (and-left (carriesAll c) (all carriesAll cs) e), all-numbers cs (and-right (carriesAll c) (all carriesAll cs) e))
 
 -- a run from a cache store of zeros: three tests, and the rules
-pub run-under : {rules : Type 0} {memory : List ℕ} {cs : List Call} → all isByte memory ≡ true → startRefusal memory zeroStore ≡ 0
-    → all carriesAll cs ≡ true → rules → RunUnder rules memory zeroStore cs
-run-under {rules} {memory} {cs} b s n k =
+pub run-under : {rules : Type 0} {memory bad : List ℕ} {cs : List Call} → all isByte memory ≡ true → startRefusal memory zeroStore ≡ 0
+    → all carriesAll cs ≡ true → rules → RunUnder rules memory bad zeroStore cs
+run-under {rules} {memory} {bad} {cs} b s n k =
     record { memory-bytes = bytes memory b; store-bytes = zero-bytes; served-start = s; numbers = all-numbers cs n; keeps = k }

@@ -24,18 +24,21 @@ unfolding each
 each-and zero f g = refl
 each-and (suc n) f g = rw (each-and n f g) (and-swap (each n f) (each n g) (f n) (g n))
 
-module _ (memory : List ℕ) (list : List Call) where
-  abbrev all : (List ℕ → List Call → ℕ → Bool) → Bool
-  all rule = throughout memory list (rule memory list)
+module _ (memory bad : List ℕ) (list : List Call) where
+  abbrev all : (List ℕ → List ℕ → List Call → ℕ → Bool) → Bool
+  all rule = throughout memory bad list (rule memory bad list)
 
   -- R2 and R6 in their halves
-  halves : keepsBut R2 (test R2) memory list ≡ keepsRules memory list
+  halves : keepsBut R2 (test R2) memory bad list ≡ keepsRules memory bad list
   unfolding keepsRules
   halves =
-      rw (each-and (length list) (r2-physical memory list) (r2-virtual memory list), each-and (length list) (r6-inside memory list) (r6-equal memory list))
+      rw (
+        each-and (length list) (r2-physical memory bad list) (r2-virtual memory bad list),
+        each-and (length list) (r6-inside memory bad list) (r6-equal memory bad list),
+      )
       (and-assoc (all r2-physical) (all r2-virtual) (all r3 && (all r4 && (all r5 && (all r6-inside && all r6-equal)))))
 
-  rules : (rule : Rule) → keepsBut rule (test rule) memory list ≡ keepsRules memory list
+  rules : (rule : Rule) → keepsBut rule (test rule) memory bad list ≡ keepsRules memory bad list
   rules R2 = halves
   rules R3 = halves
   rules R4 = halves

@@ -13,12 +13,17 @@ use Rattle.step.specs.Run as steps
 use Rattle.terms.specs.Positions as positions
 use Rattle.terms.specs.Positions.{some}
 use Rattle.terms.specs.Term3.{RunUnder}
+use Rattle.bus.specs.Physical.{noBadWords}
 use Rattle.marked.specs.MarkedCases as marked
 use Rattle.needed.specs.Calls.{load, store, flush, flushLine, clean, drain, flushTlb, enabled, fromWords, zeroStore}
 
 -- 440 bytes: level 1 word 0 is C0E, word 3 has its table at 400, of which words 0 to F are one large page at 0; 8 stands at 40
 abbrev pub memory : List ℕ
 memory = fromWords (0xC0E ∷ 0 ∷ 0 ∷ 0x401 ∷ replicate 12 0 ++ (8 ∷ replicate 0xEF 0 ++ replicate 16 0xFFD))
+
+-- no word of it is bad
+abbrev pub bad : List ℕ
+bad = noBadWords memory
 
 -- calls 2 to F: level 1 word 2 becomes C0E, and is walked once cleaned, drained and the TLB flushed
 abbrev pub calls : List Call
@@ -35,28 +40,29 @@ answers =
 -- what R3 asks of the line stored to at i, before a flush at j, is asked
 abbrev pub asksR3 : ℕ → ℕ → Bool
 asksR3 i j =
-    let l = positions.lineAt memory calls i in
-    positions.covers memory calls l j && (positions.lastToLine memory calls i j && not (some i j (positions.covers memory calls l)))
+    let l = positions.lineAt memory bad calls i in
+    positions.covers memory bad calls l j && (positions.lastToLine memory bad calls i j && not (some i j (positions.covers memory bad calls l)))
 
 -- what R4 asks of the word stored to at i, before an access at j that walks over it, is asked
 abbrev pub asksR4 : ℕ → ℕ → Bool
 asksR4 i j =
-    positions.translates memory calls j && (positions.readsWord memory calls (positions.wordAt memory calls i) j && positions.lastToWord memory calls i j)
+    positions.translates memory bad calls j
+    && (positions.readsWord memory bad calls (positions.wordAt memory bad calls i) j && positions.lastToWord memory bad calls i j)
 
 -- what R5 asks of a table base write at i, before an access at j, is asked
 abbrev pub asksR5 : ℕ → ℕ → Bool
 asksR5 i j =
-    positions.writesBase memory calls i && (positions.translates memory calls j && not (some i j (positions.translates memory calls)))
+    positions.writesBase memory bad calls i && (positions.translates memory bad calls j && not (some i j (positions.translates memory bad calls)))
 
 pub record Asked : Type 0 where
   -- all that term 3 asks
-  pub run : RunUnder (positions.keepsRules memory calls ≡ true) memory zeroStore calls
+  pub run : RunUnder (positions.keepsRules memory bad calls ≡ true) memory bad zeroStore calls
   -- "after cleaning and draining"
-  pub settled : positions.settled memory calls ≡ true
+  pub settled : positions.settled memory bad calls ≡ true
   -- what the library answers
-  pub answered : steps.answers (started memory zeroStore .machine) calls ≡ answers
+  pub answered : steps.answers (started memory bad zeroStore .machine) calls ≡ answers
   -- R2: calls 6 and 7 reach one line, through one virtual line
-  pub asks-r2 : positions.bothReach memory calls 6 7 ≡ true
+  pub asks-r2 : positions.bothReach memory bad calls 6 7 ≡ true
   -- R3: the line flush at 9 covers the line stored to at 7, the whole flush at A the line stored to at 2
   pub asks-r3-line : asksR3 7 9 ≡ true
   pub asks-r3-whole : asksR3 2 10 ≡ true
@@ -65,4 +71,4 @@ pub record Asked : Type 0 where
   -- R5: the table base is written at B, and D is the next translated access
   pub asks-r5 : asksR5 11 13 ≡ true
   -- R6: the plain walk at D finds a large page, so that each word of the group is tested
-  pub asks-r6 : positions.ofGroup memory calls (λ p a two. false) 13 ≡ false
+  pub asks-r6 : positions.ofGroup memory bad calls (λ p a two. false) 13 ≡ false

@@ -11,7 +11,7 @@ use Rattle.values.specs.declared.Answer.{Answer}
 use Rattle.values.specs.declared.Answer.the-variants.{Value}
 use Rattle.values.specs.declared.Status.the-variants.{WalkFirst, WalkSecond, TranslationSection, TranslationPage, FillPage, OtherSection}
 use Rattle.words.specs.Words.{valueAt}
-use Rattle.bus.specs.Physical.{aborts}
+use Rattle.bus.specs.Physical.{noBadWords, aborts}
 use Rattle.cp15.specs.Operations as cp15
 use Rattle.machine.specs.Machine.{memoryOf}
 use Rattle.step.specs.Start.{started}
@@ -27,12 +27,12 @@ use Rattle.needed.specs.Calls.{load, store, flush, flushLine, clean, dra
 
 -- ---- the rules, and what is left of a rule without a part of it
 
--- a test of a call of a list, and of what came between two calls: from the start's memory, the list and positions in it
+-- a test of a call of a list, and of what came between two calls: from the start's memory, the map, the list and positions in it
 abbrev pub Test : Type 0
-Test = List ℕ → List Call → ℕ → Bool
+Test = List ℕ → List ℕ → List Call → ℕ → Bool
 
 abbrev pub Since : Type 0
-Since = List ℕ → List Call → ℕ → ℕ → Bool
+Since = List ℕ → List ℕ → List Call → ℕ → ℕ → Bool
 
 -- the rules that a list of calls keeps or breaks
 pub data Rule : Type 0 where
@@ -44,11 +44,11 @@ pub data Rule : Type 0 where
 
 -- R2: "each physical line is reached through one virtual line and each virtual line reaches one physical line"
 abbrev pub r2 : Test
-r2 memory list j = positions.r2-physical memory list j && positions.r2-virtual memory list j
+r2 memory bad list j = positions.r2-physical memory bad list j && positions.r2-virtual memory bad list j
 
--- R6: "the aligned group of sixteen words round that level 2 word lies in memory and all are equal"
+-- R6: "the aligned group of sixteen words round that level 2 word lies in memory and all are equal"; document 02, Five: they "are good ones"
 abbrev pub r6 : Test
-r6 memory list j = positions.r6-inside memory list j && positions.r6-equal memory list j
+r6 memory bad list j = positions.r6-inside memory bad list j && positions.r6-equal memory bad list j
 
 -- a rule's test
 abbrev pub test : Rule → Test
@@ -59,15 +59,15 @@ test R5 = positions.r5
 test R6 = r6
 
 -- R2 to R6 by five tests, each at every call
-abbrev pub keepsBy : Test → Test → Test → Test → Test → List ℕ → List Call → Bool
-keepsBy a b c d e memory list =
-    throughout memory list (a memory list)
-    && (throughout memory list (b memory list)
-    && (throughout memory list (c memory list)
-    && (throughout memory list (d memory list) && throughout memory list (e memory list))))
+abbrev pub keepsBy : Test → Test → Test → Test → Test → List ℕ → List ℕ → List Call → Bool
+keepsBy a b c d e memory bad list =
+    throughout memory bad list (a memory bad list)
+    && (throughout memory bad list (b memory bad list)
+    && (throughout memory bad list (c memory bad list)
+    && (throughout memory bad list (d memory bad list) && throughout memory bad list (e memory bad list))))
 
 -- R2 to R6 with one of them replaced by what is left of it
-abbrev pub keepsBut : Rule → Test → List ℕ → List Call → Bool
+abbrev pub keepsBut : Rule → Test → List ℕ → List ℕ → List Call → Bool
 keepsBut R2 left = keepsBy left positions.r3 positions.r4 positions.r5 r6
 keepsBut R3 left = keepsBy r2 left positions.r4 positions.r5 r6
 keepsBut R4 left = keepsBy r2 positions.r3 left positions.r5 r6
@@ -76,107 +76,111 @@ keepsBut R6 left = keepsBy r2 positions.r3 positions.r4 positions.r5 left
 
 -- R2 with its second half for translated accesses alone; for accesses inside memory alone
 abbrev pub r2-translated : Test
-r2-translated memory list j = positions.r2-physical memory list j && given (translates memory list j) (positions.r2-virtual memory list j)
+r2-translated memory bad list j = positions.r2-physical memory bad list j && given (translates memory bad list j) (positions.r2-virtual memory bad list j)
 
 abbrev pub r2-inside : Test
-r2-inside memory list j =
-    positions.r2-physical memory list j
-    && given (not (aborts (plainPhysical (before memory list j)) (addressAt memory list j))) (positions.r2-virtual memory list j)
+r2-inside memory bad list j =
+    positions.r2-physical memory bad list j
+    && given (not (aborts (plainPhysical (before memory bad list j)) (addressAt memory bad list j))) (positions.r2-virtual memory bad list j)
 
 -- nothing is left
 abbrev pub nothing : Test
-nothing memory list j = true
+nothing memory bad list j = true
 
 -- R3 is left for line flushes alone, of which the list has none; for whole flushes alone, of which it has none. To ask that there are none is more than
 -- to ask R3 of them
 abbrev pub noLineFlush : Test
-noLineFlush memory list j = not (writes memory list cp15.flushesLine j)
+noLineFlush memory bad list j = not (writes memory bad list cp15.flushesLine j)
 
 abbrev pub noWholeFlush : Test
-noWholeFlush memory list j = not (flushesDcache memory list j)
+noWholeFlush memory bad list j = not (flushesDcache memory bad list j)
 
 -- R3 with another test for "has been cleaned after its last store"
 abbrev pub r3By : Since → Test
-r3By since memory list = positions.r3By memory list (since memory list)
+r3By since memory bad list = positions.r3By memory bad list (since memory bad list)
 
 -- R4 with another test for "has, after its last store, had its line cleaned, then a drain, then a whole TLB flush"
 abbrev pub r4By : Since → Test
-r4By since memory list = positions.r4By memory list (since memory list)
+r4By since memory bad list = positions.r4By memory bad list (since memory bad list)
 
 -- "all are equal", of those of the sixteen words that lie in memory
 abbrev pub equalInMemory : Test
-equalInMemory memory list =
-    positions.ofGroup memory list
+equalInMemory memory bad list =
+    positions.ofGroup memory bad list
     (λ p a two. aborts (plainPhysical p) (record { 0 = a }) || eqb (valueAt 4 (p .memory) a) (valueAt 4 (p .memory) two))
 
 -- R6 for accesses whose rights pass alone
 abbrev pub r6-reaching : Test
-r6-reaching memory list j = given (reaches memory list j) (r6 memory list j)
+r6-reaching memory bad list j = given (reaches memory bad list j) (r6 memory bad list j)
 
 -- ---- what came after a store at i and before call j
 
 -- "then": what came first, and after it a call that meets the test
 abbrev pub followed : Since → Test → Since
-followed since test memory list i j = some i j (λ k. test memory list k && since memory list i k)
+followed since test memory bad list i j = some i j (λ k. test memory bad list k && since memory bad list i k)
 
 -- any calls, or none
 abbrev pub anything : Since
-anything memory list i j = true
+anything memory bad list i j = true
 
 -- a clean of any virtual line
 abbrev pub anyClean : Since
-anyClean = followed anything (λ memory list. writes memory list cp15.cleansLine)
+anyClean = followed anything (λ memory bad list. writes memory bad list cp15.cleansLine)
 
 -- the line cleaned and a drain, in any order; and a whole TLB flush, in any order
 abbrev pub cleanedAndDrained : Since
-cleanedAndDrained memory list i j = cleanedSince memory list i j && some i j (drains memory list)
+cleanedAndDrained memory bad list i j = cleanedSince memory bad list i j && some i j (drains memory bad list)
 
 abbrev pub inAnyOrder : Since
-inAnyOrder memory list i j = cleanedAndDrained memory list i j && some i j (flushesTlb memory list)
+inAnyOrder memory bad list i j = cleanedAndDrained memory bad list i j && some i j (flushesTlb memory bad list)
 
 -- the end, "after cleaning and draining", with another test for what came after each line's last store
-abbrev pub settledBut : Since → List ℕ → List Call → Bool
-settledBut since memory list = positions.allSettledBy memory list (since memory list)
+abbrev pub settledBut : Since → List ℕ → List ℕ → List Call → Bool
+settledBut since memory bad list = positions.allSettledBy memory bad list (since memory bad list)
 
 -- Where all of a rule is left, the five tests are term 3's.
 abbrev pub Whole : Type 0
-Whole = (memory : List ℕ) (list : List Call) (rule : Rule) → keepsBut rule (test rule) memory list ≡ positions.keepsRules memory list
+Whole = (memory bad : List ℕ) (list : List Call) (rule : Rule) → keepsBut rule (test rule) memory bad list ≡ positions.keepsRules memory bad list
 
 -- ---- a row
 
--- The list keeps all that term 3 asks, but of this rule only what is left of it. The library's last answer and the plain machine's are these.
+-- The list keeps all that term 3 asks, but of this rule only what is left of it. The library's last answer and the plain machine's are these. No word of
+-- memory is bad.
 pub record Differs (rule : Rule) (left : Test) (memory : List ℕ) (list : List Call) (library plain : Answer) : Type 0 where
-  pub run : RunUnder (keepsBut rule left memory list ≡ true) memory zeroStore list
-  pub broken : throughout memory list (test rule memory list) ≡ false
-  pub library-last : last (answers (started memory zeroStore .machine) list) ≡ library
-  pub plain-last : last (plainAnswers (plainStart memory) list) ≡ plain
+  pub run : RunUnder (keepsBut rule left memory (noBadWords memory) list ≡ true) memory (noBadWords memory) zeroStore list
+  pub broken : throughout memory (noBadWords memory) list (test rule memory (noBadWords memory) list) ≡ false
+  pub library-last : last (answers (started memory (noBadWords memory) zeroStore .machine) list) ≡ library
+  pub plain-last : last (plainAnswers (plainStart memory (noBadWords memory)) list) ≡ plain
   pub differ : library ≡ plain → ⊥
 
 -- The list keeps the rules, and of what the end asks only what is left of it. The answers are the same, and the byte at this address of the library's
--- memory and of the plain machine's are these.
+-- memory and of the plain machine's are these. No word of memory is bad.
 pub record DiffersAtEnd (left : Since) (memory : List ℕ) (list : List Call) (address library plain : ℕ) : Type 0 where
-  pub run : RunUnder (positions.keepsRules memory list ≡ true) memory zeroStore list
-  pub settled-but : settledBut left memory list ≡ true
-  pub broken : positions.settled memory list ≡ false
-  pub same-answers : answers (started memory zeroStore .machine) list ≡ plainAnswers (plainStart memory) list
-  pub library-has : getD (memoryOf (term3.library memory zeroStore list)) address 0 ≡ library
-  pub plain-has : getD (term3.plain memory list .memory) address 0 ≡ plain
+  pub run : RunUnder (positions.keepsRules memory (noBadWords memory) list ≡ true) memory (noBadWords memory) zeroStore list
+  pub settled-but : settledBut left memory (noBadWords memory) list ≡ true
+  pub broken : positions.settled memory (noBadWords memory) list ≡ false
+  pub same-answers : answers (started memory (noBadWords memory) zeroStore .machine) list ≡ plainAnswers (plainStart memory (noBadWords memory)) list
+  pub library-has : getD (memoryOf (term3.library memory (noBadWords memory) zeroStore list)) address 0 ≡ library
+  pub plain-has : getD (term3.plain memory (noBadWords memory) list .memory) address 0 ≡ plain
   pub differ : library ≡ plain → ⊥
 
--- So term 3 fails with what a row leaves of a rule: not all answers are those of the plain machine.
+-- So term 3 fails with what a row leaves of a rule, even if no word may be bad: not all answers are those of the plain machine.
 abbrev pub Refutes : Type 0
 Refutes =
     (rule : Rule) (left : Test) (memory : List ℕ) (list : List Call) (library plain : Answer) → Differs rule left memory list library plain
-    → ((memory store : List ℕ) (list : List Call) → RunUnder (keepsBut rule left memory list ≡ true) memory store list
-    → answers (started memory store .machine) list ≡ plainAnswers (plainStart memory) list)
+    → ((memory store : List ℕ) (list : List Call)
+    → RunUnder (keepsBut rule left memory (noBadWords memory) list ≡ true) memory (noBadWords memory) store list
+    → answers (started memory (noBadWords memory) store .machine) list ≡ plainAnswers (plainStart memory (noBadWords memory)) list)
     → ⊥
 
 -- and with what a row leaves of the end: memory is not the plain machine's
 abbrev pub RefutesAtEnd : Type 0
 RefutesAtEnd =
     (left : Since) (memory : List ℕ) (list : List Call) (address library plain : ℕ) → DiffersAtEnd left memory list address library plain
-    → ((memory store : List ℕ) (list : List Call) → RunUnder (positions.keepsRules memory list ≡ true) memory store list
-    → settledBut left memory list ≡ true → memoryOf (term3.library memory store list) ≡ term3.plain memory list .memory)
+    → ((memory store : List ℕ) (list : List Call)
+    → RunUnder (positions.keepsRules memory (noBadWords memory) list ≡ true) memory (noBadWords memory) store list
+    → settledBut left memory (noBadWords memory) list ≡ true
+    → memoryOf (term3.library memory (noBadWords memory) store list) ≡ term3.plain memory (noBadWords memory) list .memory)
     → ⊥
 
 -- ---- R2

@@ -15,9 +15,10 @@ use Rattle.step.specs.Run as steps
 use Rattle.terms.specs.Positions.{keepsRules, settled, r2-virtual, drainedSince, drains}
 use Rattle.terms.specs.Positions as positions
 use Rattle.terms.specs.Term3.{RunUnder, library}
+use Rattle.bus.specs.Physical.{noBadWords}
 use Rattle.marked.specs.MarkedCases as marked
 use Rattle.needed.specs.Calls.{load, store, swap, swapOf, flush, clean, drain, enabled, twice, zeroStore}
-use Rattle.needed.specs.Witness.{memory}
+use Rattle.needed.specs.Witness.{memory, bad}
 use Rattle.needed.specs.Needed.{R2, R3, R4, Differs, DiffersAtEnd, noLineFlush, r4By, followed, anything}
 
 -- ---- a run
@@ -37,7 +38,7 @@ answers =
 
 -- the library's machine after so many of the calls
 abbrev pub after : ℕ → Machine
-after n = library memory zeroStore (take n calls)
+after n = library memory bad zeroStore (take n calls)
 
 -- memory's eight bytes from 20 on
 abbrev pub bytesOf : Machine → List ℕ
@@ -45,11 +46,11 @@ bytesOf m = take 8 (drop 0x20 (memoryOf m))
 
 pub record SwapWitness : Type 0 where
   -- all that term 3 asks
-  pub run : RunUnder (keepsRules memory calls ≡ true) memory zeroStore calls
+  pub run : RunUnder (keepsRules memory bad calls ≡ true) memory bad zeroStore calls
   -- "after cleaning and draining"
-  pub settled : settled memory calls ≡ true
+  pub settled : settled memory bad calls ≡ true
   -- what the library answers
-  pub answered : steps.answers (started memory zeroStore .machine) calls ≡ answers
+  pub answered : steps.answers (started memory bad zeroStore .machine) calls ≡ answers
   -- the store waits in the buffer; "the buffer is drained and memory is read, then written, without filling a line"
   pub waiting : after 3 .side .backing .buffer .used ≡ 1
   pub drained : after 4 .side .backing .buffer .used ≡ 0
@@ -62,8 +63,8 @@ pub record SwapWitness : Type 0 where
   pub waiting-again : after 9 .side .backing .buffer .used ≡ 1
   pub still-waiting : after 10 .side .backing .buffer .used ≡ 1
   -- the half that the swap wrote is dirty: the clean sends it out
-  pub halves : library memory zeroStore calls .counts .halves ≡ 1
-  pub at-end : bytesOf (library memory zeroStore calls) ≡ 6 ∷ 0 ∷ 0 ∷ 0 ∷ 4 ∷ 0 ∷ 0 ∷ 0 ∷ []
+  pub halves : library memory bad zeroStore calls .counts .halves ≡ 1
+  pub at-end : bytesOf (library memory bad zeroStore calls) ≡ 6 ∷ 0 ∷ 0 ∷ 0 ∷ 4 ∷ 0 ∷ 0 ∷ 0 ∷ []
 
 -- ---- what the rules ask of a swap
 
@@ -73,7 +74,8 @@ around before swap behind = enabled (before ++ (swap ∷ behind))
 
 abbrev pub KeptWithout : List Call → List Call → Type 0
 KeptWithout before behind =
-    (keepsRules twice (enabled (before ++ behind)) ≡ true) × (positions.settled twice (enabled (before ++ behind)) ≡ true)
+    (keepsRules twice (noBadWords twice) (enabled (before ++ behind)) ≡ true)
+    × (positions.settled twice (noBadWords twice) (enabled (before ++ behind)) ≡ true)
 
 -- R2: a swap reaches its line
 abbrev pub Reaches : Type 0

@@ -16,12 +16,17 @@ use Rattle.step.specs.Start.{started}
 use Rattle.step.specs.Run as steps
 use Rattle.terms.specs.Positions.{keepsRules, settled}
 use Rattle.terms.specs.Term3.{RunUnder, library}
+use Rattle.bus.specs.Physical.{noBadWords}
 use Rattle.marked.specs.MarkedCases as marked
 use Rattle.needed.specs.Calls.{load, store, clean, drain, enabled, fromWords, zeroStore}
 
 -- 40 bytes: level 1 word C0E at 0, and 9 at 20
 abbrev pub memory : List ℕ
 memory = fromWords (0xC0E ∷ replicate 7 0 ++ (9 ∷ replicate 7 0))
+
+-- no word of it is bad
+abbrev pub bad : List ℕ
+bad = noBadWords memory
 
 -- the access of 3 bytes is refused, and level 1 word 1 is 0
 abbrev pub calls : List Call
@@ -36,7 +41,7 @@ answers =
 
 -- the library's machine after so many of the calls
 abbrev pub after : ℕ → Machine
-after n = library memory zeroStore (take n calls)
+after n = library memory bad zeroStore (take n calls)
 
 -- the line that holds address 20: set 1, way 0
 abbrev pub heldLine : Machine → Line
@@ -49,19 +54,19 @@ wordBytes m = take 4 (drop 0x20 (memoryOf m))
 -- what holds of the run
 pub record Witness : Type 0 where
   -- all that term 3 asks
-  pub run : RunUnder (keepsRules memory calls ≡ true) memory zeroStore calls
+  pub run : RunUnder (keepsRules memory bad calls ≡ true) memory bad zeroStore calls
   -- "after cleaning and draining"
-  pub settled : settled memory calls ≡ true
+  pub settled : settled memory bad calls ≡ true
   -- what the library answers
-  pub answered : steps.answers (started memory zeroStore .machine) calls ≡ answers
+  pub answered : steps.answers (started memory bad zeroStore .machine) calls ≡ answers
   -- "TLB misses, Dcache hits, line fills, halves sent out"
-  pub misses : library memory zeroStore calls .counts .misses ≡ 2
-  pub hits : library memory zeroStore calls .counts .hits ≡ 2
-  pub fills : library memory zeroStore calls .counts .fills ≡ 1
-  pub halves : library memory zeroStore calls .counts .halves ≡ 1
+  pub misses : library memory bad zeroStore calls .counts .misses ≡ 2
+  pub hits : library memory bad zeroStore calls .counts .hits ≡ 2
+  pub fills : library memory bad zeroStore calls .counts .fills ≡ 1
+  pub halves : library memory bad zeroStore calls .counts .halves ≡ 1
   -- after the fill the line is clean; after the store it is dirty, and memory has the old word; after the clean and the drain, the new one
   pub clean-line : heldLine (after 3) .low ≡ false
   pub dirty-line : heldLine (after 4) .low ≡ true
   pub old-word : wordBytes (after 4) ≡ 9 ∷ 0 ∷ 0 ∷ 0 ∷ []
-  pub cleaned-line : heldLine (library memory zeroStore calls) .low ≡ false
-  pub new-word : wordBytes (library memory zeroStore calls) ≡ 7 ∷ 0 ∷ 0 ∷ 0 ∷ []
+  pub cleaned-line : heldLine (library memory bad zeroStore calls) .low ≡ false
+  pub new-word : wordBytes (library memory bad zeroStore calls) ≡ 7 ∷ 0 ∷ 0 ∷ 0 ∷ []

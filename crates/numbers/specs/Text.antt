@@ -39,12 +39,12 @@ savedOf m =
     pair (headFrom (m .cp15 .registers) (m .size) (m .cp15 .pointer) (m .side .cache .pointers) (m .side .backing .buffer .used) (m .counts))
     (pair (m .entries) (pair (m .side .cache .lines) (m .side .backing .buffer .slots)))
 
--- the machine of what a text has, with memory and cache store
-abbrev pub machineWith : List ℕ → List ℕ → Saved → Machine
-machineWith memory store s =
+-- the machine of what a text has, with memory, map and cache store
+abbrev pub machineWith : List ℕ → List ℕ → List ℕ → Saved → Machine
+machineWith memory bad store s =
     machineFrom (cp15From (s .first .registers) (s .first .pointer)) (s .rest .first)
     (sideFrom (dcacheFrom (s .rest .rest .first) (s .first .pointers) store)
-    (backingFrom memory (bufferFrom (s .rest .rest .rest) (s .first .used)))) (s .first .counts) (s .first .size)
+    (backingFrom memory bad (bufferFrom (s .rest .rest .rest) (s .first .used)))) (s .first .counts) (s .first .size)
 
 -- the text of a machine's state and record
 unfoldable pub textOf : Machine → List ℕ

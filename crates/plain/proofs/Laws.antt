@@ -25,10 +25,8 @@ use Rattle.values.specs.declared.Status.the-variants.{Alignment}
 use Rattle.values.specs.declared.Answer.the-variants as answer
 use Rattle.values.proofs.Cases.{case, clash}
 use Rattle.values.proofs.Kind as kinds
-use Rattle.words.specs.Words.{valueAt}
-use Rattle.words.specs.Signed.{loadAnswer}
-use Rattle.bus.specs.Physical.{physical, aborts}
-use Rattle.bus.proofs.Laws.{answers}
+use Rattle.bus.specs.Physical.{aborts, wantedAborts}
+use Rattle.bus.proofs.Laws.{wanted-own}
 use Rattle.translation.specs.Alignment.{alignmentFaults, cleared}
 use Rattle.translation.specs.Translation.{walkedOnly, checked, decisionFrom, decided}
 use Rattle.translation.specs.Faults.{fills, buffers, fillStatus, otherStatus, faultSet}
@@ -40,21 +38,42 @@ use Rattle.translation.specs.declared.Checked.{Checked}
 use Rattle.translation.specs.declared.Checked.the-variants.{Passed, Denied}
 use Rattle.translation.proofs.Laws.{in-word}
 use Rattle.registers.specs.Registers.{writtenOf}
-use Rattle.refusals.specs.Refusals.{row5, callRows, callRefusal}
+use Rattle.refusals.specs.Refusals.{refusalIn, mapFits, row5, row16, callRows, callRefusal}
 use Rattle.refusals.proofs.Rows.{row-met, row-unmet}
-use Rattle.plain.specs.Plain.{Plain, PlainStepped, plainStepped, plainPhysical, plainFaulted, plainReach, plainLoad, plainStore, plainSwap, plainWritten}
-use Rattle.plain.specs.Plain.{plainPassed, plainAt, plainAccess, plainWrite, plainDone, plainBy, plainly, plainRefusal, counted}
+use Rattle.plain.specs.Plain.{Plain, PlainStepped, plainStepped, plainPhysical, plainFaulted, plainReach, plainLoaded, plainLoadAborts, plainLoad}
+use Rattle.plain.specs.Plain.{plainStore, plainSwap, plainWritten, plainPassed, plainAt, plainAccess}
+use Rattle.plain.specs.Plain.{plainWrite, plainDone, plainBy, plainly, plainRefusal, counted}
 use Rattle.plain.specs.Code.{Kept, Steps, Inside}
 
 -- ---- loads, stores and swaps that pass
 
+-- which words a load reads: those of its line up to the wanted one where it may fill, else its own
+module _ (p : Plain) (l : Place) where
+  pub load-aborts-fill : fills (p .registers) l ≡ true → plainLoadAborts p l ≡ wantedAborts (plainPhysical p) (l .address)
+  load-aborts-fill f = rw f
+
+  pub load-aborts-other : fills (p .registers) l ≡ false → plainLoadAborts p l ≡ aborts (plainPhysical p) (l .address)
+  load-aborts-other f = rw f
+
+  -- its own word is among them, and is the last
+  pub load-answers : plainLoadAborts p l ≡ false → aborts (plainPhysical p) (l .address) ≡ false
+  load-answers h =
+      case (fills (p .registers) l)
+      (λ f. wanted-own (plainPhysical p) (l .address) (sym (load-aborts-fill f) ∙ h))
+      (λ f. sym (load-aborts-other f) ∙ h)
+
+  pub load-wanted : wantedAborts (plainPhysical p) (l .address) ≡ false → plainLoadAborts p l ≡ false
+  load-wanted h =
+      case (fills (p .registers) l)
+      (λ f. load-aborts-fill f ∙ h)
+      (λ f. load-aborts-other f ∙ wanted-own (plainPhysical p) (l .address) h)
+
 module _ (p : Plain) (a : Access) (l : Place) where
-  pub load-in : aborts (plainPhysical p) (l .address) ≡ false
-      → plainLoad p a l ≡ plainStepped p (loadAnswer (a .kind) (a .width) (valueAt (a .width) (p .memory) (l .address .0)))
+  pub load-in : plainLoadAborts p l ≡ false → plainLoad p a l ≡ plainStepped p (plainLoaded p a l)
   unfolding plainLoad
   load-in h = rw h
 
-  module _ (h : aborts (plainPhysical p) (l .address) ≡ true) where
+  module _ (h : plainLoadAborts p l ≡ true) where
     pub load-fill : fills (p .registers) l ≡ true → plainLoad p a l ≡ plainFaulted p (fillStatus l) (l .domain) (a .address)
     unfolding plainLoad
     load-fill f = rw (h, f)
@@ -77,7 +96,7 @@ module _ (p : Plain) (a : Access) (l : Place) where
       unfolding plainStore
       store-other f = rw (h, f)
 
-    pub swap-in : aborts (plainPhysical p) (l .address) ≡ false → plainSwap p a v l ≡ plainStepped (plainStore p a v l .plain) (plainLoad p a l .answer)
+    pub swap-in : aborts (plainPhysical p) (l .address) ≡ false → plainSwap p a v l ≡ plainStepped (plainStore p a v l .plain) (plainLoaded p a l)
     unfolding plainSwap
     swap-in h = rw h
 
@@ -100,10 +119,10 @@ passed-load p a l SignedLoad h = refl
 passed-load p a l (Store v) h = clash {b = true} refl h
 passed-load p a l (Swap v) h = clash {b = true} refl h
 
--- an access whose word answers lies in memory whole: no access crosses a word
+-- an access whose word lies in memory lies there whole: no access crosses a word
 pub inside-fits : (memory : List ℕ) (a : Access) (l : Place) → Inside memory a l → l .address .0 + a .width ≤ length memory
 inside-fits memory a l i =
-    let h = answers (physical memory) (l .address) (i .answers) in
+    let h = i .inside in
     let k = in-word a (l .address .0) (i .placed .width) (i .placed .place .within) in
     omega arith
 
@@ -170,20 +189,27 @@ module _ (p : Plain) (c : Call) where
   unfolding plainly
   by-refusal n e = ap (plainBy p c) e
 
-  pub refused-five : p .calls ≡ countLimit → plainly p c ≡ plainStepped p (answer.Refused 5)
+  pub refused-map : mapFits (length (p .memory)) (p .bad) ≡ false → plainly p c ≡ plainStepped p (answer.Refused 16)
   unfolding plainRefusal
-  refused-five e = by-refusal 5 (row-met (row5 (p .calls)) (callRows c) (eq-eqb (p .calls) countLimit e))
+  refused-map m = by-refusal 16 (row-met (row16 (length (p .memory)) (p .bad)) (row5 (p .calls) ∷ callRows c) (rw m))
 
-  module _ (e : p .calls ≡ countLimit → ⊥) where
-    call-refused : plainRefusal p c ≡ callRefusal c
+  module _ (m : mapFits (length (p .memory)) (p .bad) ≡ true) where
+    map-passed : plainRefusal p c ≡ refusalIn (row5 (p .calls) ∷ callRows c)
     unfolding plainRefusal
-    call-refused = row-unmet (row5 (p .calls)) (callRows c) (ne-eqb (p .calls) countLimit e)
+    map-passed = row-unmet (row16 (length (p .memory)) (p .bad)) (row5 (p .calls) ∷ callRows c) (rw m)
 
-    pub refused-by : (n : ℕ) → n ≡ callRefusal c → (n ≡ 0 → ⊥) → plainly p c ≡ plainStepped p (answer.Refused n)
-    refused-by n f z = by-refusal n (call-refused ∙ sym f) ∙ rw (ne-eqb n 0 z)
+    pub refused-five : p .calls ≡ countLimit → plainly p c ≡ plainStepped p (answer.Refused 5)
+    refused-five e = by-refusal 5 (map-passed ∙ row-met (row5 (p .calls)) (callRows c) (eq-eqb (p .calls) countLimit e))
 
-    pub not-refused : callRefusal c ≡ 0 → plainly p c ≡ plainDone (counted p) c
-    not-refused f = by-refusal 0 (call-refused ∙ f)
+    module _ (e : p .calls ≡ countLimit → ⊥) where
+      call-refused : plainRefusal p c ≡ callRefusal c
+      call-refused = map-passed ∙ row-unmet (row5 (p .calls)) (callRows c) (ne-eqb (p .calls) countLimit e)
+
+      pub refused-by : (n : ℕ) → n ≡ callRefusal c → (n ≡ 0 → ⊥) → plainly p c ≡ plainStepped p (answer.Refused n)
+      refused-by n f z = by-refusal n (call-refused ∙ sym f) ∙ rw (ne-eqb n 0 z)
+
+      pub not-refused : callRefusal c ≡ 0 → plainly p c ≡ plainDone (counted p) c
+      not-refused f = by-refusal 0 (call-refused ∙ f)
 
 -- ---- steps
 

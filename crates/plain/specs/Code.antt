@@ -1,12 +1,12 @@
--- What the code holds of the plain machine, beside the lent memory.
-use Prim.Native.Nat.{ℕ, _<_, _%_}
-use mathlib.Core.Bool.{true, false}
+-- What the code holds of the plain machine, beside the lent memory and map.
+use Prim.Native.Nat.{ℕ, _+_, _*_, _/_, _%_, _<_, _≤_}
+use mathlib.Core.Bool.{true}
 use mathlib.Core.Path.{_≡_}
 use mathlib.Core.List.{List}
+use lib.ListN.{length}
 use Rattle.values.specs.declared.Registers.{Registers}
 use Rattle.values.specs.declared.Access.{Access}
 use Rattle.words.specs.Words.{isWidth}
-use Rattle.bus.specs.Physical.{physical, aborts}
 use Rattle.translation.specs.Alignment.{cleared}
 use Rattle.translation.specs.Ranges.{PlaceRanged}
 use Rattle.translation.specs.declared.Place.{Place}
@@ -17,15 +17,15 @@ use Rattle.plain.specs.declared.Ran.{Ran}
 use Rattle.plain.specs.Plain.{Plain, PlainStepped, plainMachine, plainStepped}
 use Rattle.plain.specs.Run.{PlainLeft, withRefusal}
 
-abbrev pub plainOf : List ℕ → PlainState → Plain
-plainOf memory s = plainMachine memory (s .registers) (s .calls)
+abbrev pub plainOf : List ℕ → List ℕ → PlainState → Plain
+plainOf memory bad s = plainMachine memory bad (s .registers) (s .calls)
 
-abbrev pub steppedOf : List ℕ → Outcome → PlainStepped
-steppedOf memory o = plainStepped (plainOf memory (o .state)) (o .answer)
+abbrev pub steppedOf : List ℕ → List ℕ → Outcome → PlainStepped
+steppedOf memory bad o = plainStepped (plainOf memory bad (o .state)) (o .answer)
 
 -- what a run leaves, with the lent lists
-abbrev pub plainLeft : List ℕ → List ℕ → Ran → PlainLeft
-plainLeft memory answers r = withRefusal (leaves (plainOf memory (r .state)) answers (r .made)) (r .refusal)
+abbrev pub plainLeft : List ℕ → List ℕ → List ℕ → Ran → PlainLeft
+plainLeft memory bad answers r = withRefusal (leaves (plainOf memory bad (r .state)) answers (r .made)) (r .refusal)
 
 -- the registers are as writes leave them
 pub record Kept (r : Registers) : Type 0 where
@@ -42,7 +42,7 @@ pub record Placed (a : Access) (p : Place) : Type 0 where
   pub width : isWidth (a .width) ≡ true
   pub place : PlaceRanged (cleared a) p
 
--- an access at such a place, whose word answers
+-- an access at such a place, whose word lies in memory
 pub record Inside (memory : List ℕ) (a : Access) (p : Place) : Type 0 where
   pub placed : Placed a p
-  pub answers : aborts (physical memory) (p .address) ≡ false
+  pub inside : p .address .0 / 4 * 4 + 4 ≤ length memory

@@ -20,9 +20,9 @@ withRefusal left refusal = record { left = left; refusal = refusal }
 abbrev pub leftBy : Plain → List Call → List ℕ → Left Plain
 leftBy = leftOf plainNext plainAnswered
 
--- a run from the start: as many calls as both lists hold
-unfoldable pub plainRun : List ℕ → List ℕ → List ℕ → PlainLeft
-plainRun memory list answers =
+-- a run from the start, over a memory and its map: as many calls as both lists hold. A map that does not fit refuses each call.
+unfoldable pub plainRun : List ℕ → List ℕ → List ℕ → List ℕ → PlainLeft
+plainRun memory bad list answers =
     cond (lengthFits (length memory))
-    (withRefusal (leftBy (plainStart memory) (callsIn (min (length list / 5) (length answers)) list 0) answers) 0)
-    (withRefusal (leaves (plainStart memory) answers 0) 1)
+    (withRefusal (leftBy (plainStart memory bad) (callsIn (min (length list / 5) (length answers)) list 0) answers) 0)
+    (withRefusal (leaves (plainStart memory bad) answers 0) 1)

@@ -3,12 +3,13 @@ ghost use mathlib.Core.Path.{_≡_};
 ghost use mathlib.Core.Bool.{true};
 ghost use mathlib.Core.List.{List};
 ghost use Prim.Native.Nat.{ℕ, _<_};
+ghost use lib.ListN.{length};
 ghost use Rattle.rights.specs.Rights.{rightsTable};
 ghost use Rattle.words.specs.Words.{isWidth, valueAt};
 ghost use Rattle.words.specs.Signed.{loadAnswer};
 ghost use Rattle.translation.specs.Ranges.{CheckedIs};
 ghost use Rattle.translation.specs.Alignment as aligned;
-ghost use Rattle.refusals.specs.Refusals.{callRefusal};
+ghost use Rattle.refusals.specs.Refusals.{mapFits, callRefusal};
 ghost use Rattle.trace.specs.Fold.{callsIn, Holds};
 ghost use Rattle.plain.specs.Plain as spec;
 ghost use Rattle.plain.specs.Run as runs;
@@ -41,7 +42,7 @@ pub struct Outcome {
 // A fault: FSR and FAR are set.
 fn faulted(s: PlainState, status: Status, domain: u32, address: VirtualAddress) -> Outcome
     requires { ⌜ domain < 16 ⌝ }
-    ensures { λ r. ⌜ ((m : List ℕ) → steppedOf m r ≡ spec.plainFaulted (plainOf m s) status domain address) ⌝ }
+    ensures { λ r. ⌜ ((m bad : List ℕ) → steppedOf m bad r ≡ spec.plainFaulted (plainOf m bad s) status domain address) ⌝ }
 {
     let f = Fault {
         status,
@@ -61,20 +62,20 @@ fn faulted(s: PlainState, status: Status, domain: u32, address: VirtualAddress) 
 }
 
 // Alignment, translation and rights.
-fn reach(table: &[u8; 256], memory: &[u8], s: PlainState, a: Access) -> Checked
+fn reach(table: &[u8; 256], memory: &[u8], bad: &[u8], s: PlainState, a: Access) -> Checked
     requires { ⌜ (now table ≡ rightsTable) × Kept (s .registers) × (isWidth (a .width) ≡ true) ⌝ }
-    ensures { λ c. ⌜ CheckedIs (aligned.cleared a) c (spec.plainReach (plainOf (now (memory .entry)) s) a) ⌝ }
+    ensures { λ c. ⌜ CheckedIs (aligned.cleared a) c (spec.plainReach (plainOf (now (memory .entry)) (now (bad .entry)) s) a) ⌝ }
 {
     let r = s.registers;
     if translation::faults_alignment(r, a) {
         return Checked::Denied(Status::Alignment, 0);
     }
     let va = translation::cleared(a);
-    let t = translation::walked_only(memory, r, va);
+    let t = translation::walked_only(memory, bad, r, va);
     translation::check(table, r, a, t)
 }
 
-// The answer of a load inside memory.
+// The answer of a load or a swap inside memory.
 fn loaded(memory: &[u8], a: Access, p: Place) -> Answer
     requires { ⌜ Inside (now memory) a p ⌝ }
     ensures { λ r. ⌜ r ≡ loadAnswer (a .kind) (a .width) (valueAt (a .width) (now (memory .entry)) (p .address .0)) ⌝ }
@@ -85,15 +86,28 @@ fn loaded(memory: &[u8], a: Access, p: Place) -> Answer
     translation::load_answer(k, a.width, v)
 }
 
-// A load that passed, inside memory or outside.
-fn load(memory: &[u8], s: PlainState, a: Access, p: Place) -> Outcome
-    requires { ⌜ Kept (s .registers) × Placed a p ⌝ }
-    ensures { λ r. ⌜ Steps (steppedOf (now (memory .entry)) r) (spec.plainLoad (plainOf (now (memory .entry)) s) a p) ⌝ }
+// Whether a load's word aborts, or, where it may fill, one before it in its line.
+fn load_aborts(memory: &[u8], bad: &[u8], s: PlainState, p: Place) -> bool
+    ensures { λ r. ⌜ r ≡ spec.plainLoadAborts (plainOf (now (memory .entry)) (now (bad .entry)) s) p ⌝ }
 {
     let pa = p.address;
+    let r = s.registers;
+    if translation::fills(r, p) {
+        return bus::wanted_aborts(memory, bad, pa);
+    }
+    bus::aborts(memory, bad, pa)
+}
+
+// A load that passed.
+fn load(memory: &[u8], bad: &[u8], s: PlainState, a: Access, p: Place) -> Outcome
+    requires { ⌜ Kept (s .registers) × Placed a p ⌝ }
+    ensures { λ r.
+        ⌜ Steps (steppedOf (now (memory .entry)) (now (bad .entry)) r)
+        (spec.plainLoad (plainOf (now (memory .entry)) (now (bad .entry)) s) a p) ⌝ }
+{
     let address = a.address;
     let r = s.registers;
-    if bus::aborts(memory, pa) {
+    if load_aborts(memory, bad, s, p) {
         if translation::fills(r, p) {
             return faulted(s, translation::fill_status(p), p.domain, address);
         }
@@ -105,15 +119,17 @@ fn load(memory: &[u8], s: PlainState, a: Access, p: Place) -> Outcome
     }
 }
 
-// A store that passed, inside memory or outside.
-fn store(memory: &mut [u8], s: PlainState, a: Access, v: u32, p: Place) -> Outcome
+// A store that passed.
+fn store(memory: &mut [u8], bad: &[u8], s: PlainState, a: Access, v: u32, p: Place) -> Outcome
     requires { ⌜ Kept (s .registers) × Placed a p ⌝ }
-    ensures { λ r. ⌜ Steps (steppedOf (now (memory .exit)) r) (spec.plainStore (plainOf (now (memory .entry)) s) a v p) ⌝ }
+    ensures { λ r.
+        ⌜ Steps (steppedOf (now (memory .exit)) (now (bad .entry)) r)
+        (spec.plainStore (plainOf (now (memory .entry)) (now (bad .entry)) s) a v p) ⌝ }
 {
     let pa = p.address;
     let address = a.address;
     let r = s.registers;
-    if bus::aborts(memory, pa) {
+    if bus::aborts(memory, bad, pa) {
         if translation::buffers(r, p) {
             return Outcome {
                 state: s,
@@ -129,18 +145,19 @@ fn store(memory: &mut [u8], s: PlainState, a: Access, v: u32, p: Place) -> Outco
     }
 }
 
-// A swap that passed, inside memory or outside.
-fn swap(memory: &mut [u8], s: PlainState, a: Access, v: u32, p: Place) -> Outcome
+// A swap that passed: it reads its own word.
+fn swap(memory: &mut [u8], bad: &[u8], s: PlainState, a: Access, v: u32, p: Place) -> Outcome
     requires { ⌜ Kept (s .registers) × Placed a p ⌝ }
-    ensures { λ r. ⌜ Steps (steppedOf (now (memory .exit)) r) (spec.plainSwap (plainOf (now (memory .entry)) s) a v p) ⌝ }
+    ensures { λ r.
+        ⌜ Steps (steppedOf (now (memory .exit)) (now (bad .entry)) r)
+        (spec.plainSwap (plainOf (now (memory .entry)) (now (bad .entry)) s) a v p) ⌝ }
 {
-    if bus::aborts(memory, p.address) {
+    if bus::aborts(memory, bad, p.address) {
         let address = a.address;
         return faulted(s, translation::other_status(p), p.domain, address);
     }
-    let loaded = load(memory, s, a, p);
-    let old = loaded.answer;
-    let stored = store(memory, s, a, v, p);
+    let old = loaded(memory, a, p);
+    let stored = store(memory, bad, s, a, v, p);
     let after = stored.state;
     Outcome {
         state: after,
@@ -149,27 +166,31 @@ fn swap(memory: &mut [u8], s: PlainState, a: Access, v: u32, p: Place) -> Outcom
 }
 
 // An access that passed, by its kind.
-fn passed(memory: &mut [u8], s: PlainState, a: Access, p: Place) -> Outcome
+fn passed(memory: &mut [u8], bad: &[u8], s: PlainState, a: Access, p: Place) -> Outcome
     requires { ⌜ Kept (s .registers) × Placed a p ⌝ }
-    ensures { λ r. ⌜ Steps (steppedOf (now (memory .exit)) r) (spec.plainPassed (plainOf (now (memory .entry)) s) a p (a .kind)) ⌝ }
+    ensures { λ r.
+        ⌜ Steps (steppedOf (now (memory .exit)) (now (bad .entry)) r)
+        (spec.plainPassed (plainOf (now (memory .entry)) (now (bad .entry)) s) a p (a .kind)) ⌝ }
 {
     let k = a.kind;
     match k {
-        Kind::Load | Kind::SignedLoad => load(memory, s, a, p),
-        Kind::Store(v) => store(memory, s, a, v, p),
-        Kind::Swap(v) => swap(memory, s, a, v, p),
+        Kind::Load | Kind::SignedLoad => load(memory, bad, s, a, p),
+        Kind::Store(v) => store(memory, bad, s, a, v, p),
+        Kind::Swap(v) => swap(memory, bad, s, a, v, p),
     }
 }
 
 // An access.
-fn access(table: &[u8; 256], memory: &mut [u8], s: PlainState, a: Access) -> Outcome
+fn access(table: &[u8; 256], memory: &mut [u8], bad: &[u8], s: PlainState, a: Access) -> Outcome
     requires { ⌜ (now table ≡ rightsTable) × Kept (s .registers) × (isWidth (a .width) ≡ true) ⌝ }
-    ensures { λ r. ⌜ Steps (steppedOf (now (memory .exit)) r) (spec.plainAccess (plainOf (now (memory .entry)) s) a) ⌝ }
+    ensures { λ r.
+        ⌜ Steps (steppedOf (now (memory .exit)) (now (bad .entry)) r)
+        (spec.plainAccess (plainOf (now (memory .entry)) (now (bad .entry)) s) a) ⌝ }
 {
     let address = a.address;
-    let c = reach(table, memory, s, a);
+    let c = reach(table, memory, bad, s, a);
     match c {
-        Checked::Passed(p) => passed(memory, s, a, p),
+        Checked::Passed(p) => passed(memory, bad, s, a, p),
         Checked::Denied(status, d) => faulted(s, status, d, address),
     }
 }
@@ -177,7 +198,7 @@ fn access(table: &[u8; 256], memory: &mut [u8], s: PlainState, a: Access) -> Out
 // A CP15 read.
 fn read(s: PlainState, t: Transfer) -> Outcome
     requires { ⌜ s .registers .control < 0x2000 ⌝ }
-    ensures { λ r. ⌜ ((m : List ℕ) → steppedOf m r ≡ spec.plainRead (plainOf m s) t) ⌝ }
+    ensures { λ r. ⌜ ((m bad : List ℕ) → steppedOf m bad r ≡ spec.plainRead (plainOf m bad s) t) ⌝ }
 {
     let r = s.registers;
     Outcome {
@@ -188,7 +209,7 @@ fn read(s: PlainState, t: Transfer) -> Outcome
 
 // A CP15 write.
 fn write(s: PlainState, t: Transfer, v: u32) -> Outcome
-    ensures { λ r. ⌜ ((m : List ℕ) → steppedOf m r ≡ spec.plainWrite (plainOf m s) t v) ⌝ }
+    ensures { λ r. ⌜ ((m bad : List ℕ) → steppedOf m bad r ≡ spec.plainWrite (plainOf m bad s) t v) ⌝ }
 {
     let r = s.registers;
     let after = registers::written(r, t.register, v);
@@ -203,22 +224,39 @@ fn write(s: PlainState, t: Transfer, v: u32) -> Outcome
 }
 
 // A call that is not refused.
-fn done(table: &[u8; 256], memory: &mut [u8], s: PlainState, c: Call) -> Outcome
+fn done(table: &[u8; 256], memory: &mut [u8], bad: &[u8], s: PlainState, c: Call) -> Outcome
     requires { ⌜ (now table ≡ rightsTable) × Kept (s .registers) × (callRefusal c ≡ 0) ⌝ }
-    ensures { λ r. ⌜ Steps (steppedOf (now (memory .exit)) r) (spec.plainDone (plainOf (now (memory .entry)) s) c) ⌝ }
+    ensures { λ r.
+        ⌜ Steps (steppedOf (now (memory .exit)) (now (bad .entry)) r)
+        (spec.plainDone (plainOf (now (memory .entry)) (now (bad .entry)) s) c) ⌝ }
 {
     match c {
-        Call::Access(a) => access(table, memory, s, a),
+        Call::Access(a) => access(table, memory, bad, s, a),
         Call::Read(t) => read(s, t),
         Call::Write(t, v) => write(s, t, v),
     }
 }
 
-// One call.
-fn step(table: &[u8; 256], memory: &mut [u8], s: PlainState, c: Call) -> Outcome
-    requires { ⌜ (now table ≡ rightsTable) × Kept (s .registers) ⌝ }
-    ensures { λ r. ⌜ Steps (steppedOf (now (memory .exit)) r) (spec.plainly (plainOf (now (memory .entry)) s) c) ⌝ }
+// One call; `fits` is whether the map fits.
+fn step(
+    table: &[u8; 256],
+    memory: &mut [u8],
+    bad: &[u8],
+    fits: bool,
+    s: PlainState,
+    c: Call,
+) -> Outcome
+    requires { ⌜ (now table ≡ rightsTable) × Kept (s .registers) × (fits ≡ mapFits (length (now memory)) (now bad)) ⌝ }
+    ensures { λ r.
+        ⌜ Steps (steppedOf (now (memory .exit)) (now (bad .entry)) r)
+        (spec.plainly (plainOf (now (memory .entry)) (now (bad .entry)) s) c) ⌝ }
 {
+    if !fits {
+        return Outcome {
+            state: s,
+            answer: Answer::Refused(16),
+        };
+    }
     if s.calls == values::COUNT_LIMIT {
         return Outcome {
             state: s,
@@ -237,7 +275,7 @@ fn step(table: &[u8; 256], memory: &mut [u8], s: PlainState, c: Call) -> Outcome
         registers: r,
         calls: s.calls + 1,
     };
-    done(table, memory, counted, c)
+    done(table, memory, bad, counted, c)
 }
 
 // What a run leaves beside the lent lists: the state, how many calls were made, and refusal 1 or 0.
@@ -249,7 +287,7 @@ pub struct Ran {
 
 // The registers and the count at the start.
 fn zero_state() -> PlainState
-    ensures { λ r. ⌜ ((m : List ℕ) → plainOf m r ≡ spec.plainStart m) ⌝ }
+    ensures { λ r. ⌜ ((m bad : List ℕ) → plainOf m bad r ≡ spec.plainStart m bad) ⌝ }
 {
     let registers = values::zero_registers();
     PlainState {
@@ -258,18 +296,21 @@ fn zero_state() -> PlainState
     }
 }
 
-// The first n calls of a list, from the start.
+// The first n calls of a list, from the start; `fits` is whether the map fits.
 fn run_calls(
     table: &[u8; 256],
     memory: &mut [u8],
+    bad: &[u8],
     calls: &[u32],
     answers: &mut [u64],
+    fits: bool,
     n: usize,
 ) -> Ran
-    requires { ⌜ (now table ≡ rightsTable) × Holds (now calls) (now answers) n ⌝ }
+    requires { ⌜ (now table ≡ rightsTable) × Holds (now calls) (now answers) n × (fits ≡ mapFits (length (now memory)) (now bad)) ⌝ }
     ensures { λ r.
-        ⌜ plainLeft (now (memory .exit)) (now (answers .exit)) r
-        ≡ runs.withRefusal (runs.leftBy (spec.plainStart (now (memory .entry))) (callsIn n (now (calls .entry)) 0) (now (answers .entry))) 0 ⌝ }
+        ⌜ plainLeft (now (memory .exit)) (now (bad .entry)) (now (answers .exit)) r
+        ≡ runs.withRefusal
+        (runs.leftBy (spec.plainStart (now (memory .entry)) (now (bad .entry))) (callsIn n (now (calls .entry)) 0) (now (answers .entry))) 0 ⌝ }
 {
     let mut s = zero_state();
     let mut i: usize = 0;
@@ -282,7 +323,7 @@ fn run_calls(
             };
         }
         let c = trace::call_at(calls, i);
-        let o = step(table, memory, s, c);
+        let o = step(table, memory, bad, fits, s, c);
         let a = o.answer;
         answers[i] = trace::code(a);
         let t = o.state;
@@ -297,16 +338,17 @@ fn run_calls(
 }
 
 // A run of the plain machine from the start: as many calls, of five numbers each, as both lists hold. It stops at five numbers that are
-// no call. A memory whose length does not fit is refused, and nothing changes.
-pub fn run(memory: &mut [u8], calls: &[u32], answers: &mut [u64]) -> Ran
+// no call. A memory whose length does not fit is refused, and nothing changes. A map that does not fit refuses each call; it is tested once.
+pub fn run(memory: &mut [u8], bad: &[u8], calls: &[u32], answers: &mut [u64]) -> Ran
     ensures { λ r.
-        ⌜ plainLeft (now (memory .exit)) (now (answers .exit)) r
-        ≡ runs.plainRun (now (memory .entry)) (now (calls .entry)) (now (answers .entry)) ⌝ }
+        ⌜ plainLeft (now (memory .exit)) (now (bad .entry)) (now (answers .exit)) r
+        ≡ runs.plainRun (now (memory .entry)) (now (bad .entry)) (now (calls .entry)) (now (answers .entry)) ⌝ }
 {
     if refusals::length_fits(memory.len()) {
+        let fits = refusals::map_fits(memory.len(), bad);
         let n = trace::calls_held(calls, answers);
         let table = rights::table();
-        return run_calls(&table, memory, calls, answers, n);
+        return run_calls(&table, memory, bad, calls, answers, fits, n);
     }
     Ran {
         state: zero_state(),

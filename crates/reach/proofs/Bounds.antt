@@ -28,9 +28,9 @@ in-line a w = let h = in-block a (cleared a .0) w refl in omega arith
 
 -- an access that misses lies in memory whole, where its word answers
 pub lies-inside : (memory words : List ℕ) (bytes : List (List ℕ)) (used : ℕ) (a : Access) (p : Place) → MissReady memory words bytes used a p
-    → aborts (physical memory) (p .address) ≡ false → p .address .0 + a .width ≤ length memory
-lies-inside memory words bytes used a p k h =
-    let i = answers (physical memory) (p .address) h in
+    → (bad : List ℕ) → aborts (physical memory bad) (p .address) ≡ false → p .address .0 + a .width ≤ length memory
+lies-inside memory words bytes used a p k bad h =
+    let i = answers (physical memory bad) (p .address) h in
     access-fits a (p .address .0) (length memory) (k .width) (k .place .within) (omega (arith, i)) (k .whole)
 
 -- the line that a search finds is one of the 512

@@ -30,15 +30,21 @@ use values::Status;
 use values::VirtualAddress;
 
 // The TLB's entry that covers the address, or a walk.
-fn translate(memory: &[u8], entries: &[u64], r: Registers, va: VirtualAddress) -> Translation
+fn translate(
+    memory: &[u8],
+    bad: &[u8],
+    entries: &[u64],
+    r: Registers,
+    va: VirtualAddress,
+) -> Translation
     requires { ⌜ (length (now entries) ≡ 32) × ((i : ℕ) → i < 32 → InRange (entryOf (getD (now entries) i 0))) × (r .base % 0x4000 ≡ 0) ⌝ }
-    ensures { λ t. ⌜ Is t (mapped.translation (entriesOf (now (entries .entry))) r (physical (now (memory .entry))) va) ⌝ }
+    ensures { λ t. ⌜ Is t (mapped.translation (entriesOf (now (entries .entry))) r (physical (now (memory .entry)) (now (bad .entry))) va) ⌝ }
 {
     if values::mmu(r) {
         let found = tlb::lookup(entries, va);
         match found {
             Search::At(i) => Translation::Held(tlb::entry_of(entries[i])),
-            Search::Nothing => translation::of_walk(walk::walk(memory, r.base, va)),
+            Search::Nothing => translation::of_walk(walk::walk(memory, bad, r.base, va)),
         }
     } else {
         Translation::Flat
@@ -49,6 +55,7 @@ fn translate(memory: &[u8], entries: &[u64], r: Registers, va: VirtualAddress) -
 pub fn decide(
     table: &[u8; 256],
     memory: &[u8],
+    bad: &[u8],
     entries: &[u64],
     r: Registers,
     a: Access,
@@ -57,7 +64,8 @@ pub fn decide(
         × (r .base % 0x4000 ≡ 0) × (isWidth (a .width) ≡ true) ⌝ }
     ensures { λ d.
         ⌜ DecisionIs a d
-        (mapped.decided r a (mapped.translation (entriesOf (now (entries .entry))) r (physical (now (memory .entry))) (aligned.cleared a))) ⌝ }
+        (mapped.decided r a (mapped.translation (entriesOf (now (entries .entry))) r (physical (now (memory .entry)) (now (bad .entry)))
+        (aligned.cleared a))) ⌝ }
 {
     if translation::faults_alignment(r, a) {
         return Decision {
@@ -66,7 +74,7 @@ pub fn decide(
         };
     }
     let va = translation::cleared(a);
-    let t = translate(memory, entries, r, va);
+    let t = translate(memory, bad, entries, r, va);
     let checked = translation::check(table, r, a, t);
     Decision {
         mapping: t,

@@ -1,10 +1,12 @@
--- "Refused calls, in checking order": the twelve rows, and those that a call alone decides. The number of a refusal is that of the first row met,
--- among the rows that the call meets, in their order; 0 is none. Which rows each call meets: crate step, specs/Meets.antt.
-use Prim.Native.Nat.{ℕ, _%_}
+-- "Refused calls, in checking order": the twelve rows, document 02's row 16, and those that a call alone decides. The number of a refusal is that of the
+-- first row met, among the rows that the call meets, in their order; 0 is none. Which rows each call meets: crate step, specs/Meets.antt.
+use Prim.Native.Nat.{ℕ, _*_, _%_}
 use mathlib.Core.Bool.{Bool, true, false, cond, not, _&&_}
 use mathlib.Core.List.{List, [], _∷_}
 use lib.Dec.{eqb, leb}
+use lib.ListN.{length}
 use Rattle.values.specs.Bits.{bit}
+use Rattle.values.specs.Lists.{all}
 use Rattle.values.specs.Rows.{Row, firstMet}
 use Rattle.values.specs.Control.{listed}
 use Rattle.values.specs.Counts.{countLimit}
@@ -47,6 +49,13 @@ row3 sound = refuses 3 (not sound)
 -- "4. The memory length differs from the one at the start."
 abbrev pub row4 : ℕ → ℕ → Row ℕ
 row4 start length = refuses 4 (not (eqb start length))
+
+-- Document 02, Five: "16 when the map's length is not a quarter of memory's or a byte exceeds 1, after 4": for a memory of n bytes
+unfoldable pub mapFits : ℕ → List ℕ → Bool
+mapFits n bad = eqb (length bad * 4) n && all (λ (b : ℕ). leb b 1) bad
+
+abbrev pub row16 : ℕ → List ℕ → Row ℕ
+row16 memory bad = refuses 16 (not (mapFits memory bad))
 
 -- "5. The count of calls stands at 4,294,967,295."
 abbrev pub row5 : ℕ → Row ℕ

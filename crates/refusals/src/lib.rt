@@ -2,6 +2,9 @@
 ghost use mathlib.Core.Path.{_≡_};
 ghost use mathlib.Core.Bool.{true, false, not};
 ghost use mathlib.Core.List.{[], _∷_};
+ghost use Prim.Native.Nat.{ℕ};
+ghost use lib.Dec.{leb};
+ghost use Rattle.values.specs.Lists.{all};
 ghost use Rattle.values.specs.Kinds.{isStore};
 ghost use Rattle.words.specs.Words.{isWidth};
 ghost use Rattle.refusals.specs.Refusals as spec;
@@ -32,6 +35,34 @@ pub fn lent_refusal(memory: usize, store: usize) -> u32
         return 2;
     }
     1
+}
+
+// Whether no byte of a map exceeds 1: its greatest does not.
+fn bytes_low(bad: &[u8]) -> bool
+    ensures { λ r. ⌜ r ≡ all (λ (b : ℕ). leb b 1) (now (bad .entry)) ⌝ }
+{
+    let mut most: u8 = 0;
+    let mut i: usize = 0;
+    while i < bad.len() {
+        if most < bad[i] {
+            most = bad[i];
+        }
+        i += 1;
+    }
+    most <= 1
+}
+
+// Whether a map fits a memory of n bytes: one byte a word, none of which exceeds 1.
+pub fn map_fits(n: usize, bad: &[u8]) -> bool
+    ensures { λ r. ⌜ r ≡ spec.mapFits n (now (bad .entry)) ⌝ }
+{
+    if n % 4 == 0 {
+        if bad.len() == n / 4 {
+            return bytes_low(bad);
+        }
+        return false;
+    }
+    false
 }
 
 // Refusal 6 or 7 of an access that stores, with a width of 1, 2 or 4; 0 where neither is met. A swap has no width of 2.

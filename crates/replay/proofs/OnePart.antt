@@ -46,13 +46,13 @@ module _ (ends : Bool) (h : Held) (k : Kept (h .lines) (h .held) (h .waiting) (h
       case (eqb (P .verdict) more) (λ u. rw u (e ∙ parsed .more-taken (eqb-true (P .verdict) 0 u)))
       (λ u. let z : length text ≡ length text - 0 = omega arith in rw u z)
 
-  pub one-is : (whole scratch memory store after : List ℕ) (taken : ℕ) (last : Bool) (b : Batch) → whole ≡ begunLine h ++ onto (64 - h .held) text
+  pub one-is : (whole scratch memory bad store after : List ℕ) (taken : ℕ) (last : Bool) (b : Batch) → whole ≡ begunLine h ++ onto (64 - h .held) text
       → taken ≡ length (onto (64 - h .held) text) → last ≡ (ends && eqb taken (length text))
-      → Batched (h .machine) last (h .lines) 1 whole scratch memory store after b
-      → (g : Held) → g ≡ settled (machineIn memory store (b .state) (b .cp15)) (h .lines) (b .made) (b .verdict) (drop (b .end) whole)
+      → Batched (h .machine) last (h .lines) 1 whole scratch memory bad store after b
+      → (g : Held) → g ≡ settled (machineIn memory bad store (b .state) (b .cp15)) (h .lines) (b .made) (b .verdict) (drop (b .end) whole)
       → (t : ℕ) → t ≡ cond (eqb (b .verdict) 0) taken (length text) → putOut g (take (b .written) after) out t ≡ replayed ends 1 h text out
   unfolding replayed
-  one-is whole scratch memory store after taken last b w n l B g e t u =
+  one-is whole scratch memory bad store after taken last b w n l B g e t u =
       let q : parse last 1 whole ≡ P =
       ap (λ (x : List ℕ). parse last 1 x) w
       ∙ ap (λ (x : Bool). parse x 1 (begunLine h ++ onto (64 - h .held) text)) (l ∙ ap (λ (x : ℕ). ends && eqb x (length text)) n) ∙ sym (parsed .same)
@@ -60,7 +60,7 @@ module _ (ends : Bool) (h : Held) (k : Kept (h .lines) (h .held) (h .waiting) (h
       let v : b .verdict ≡ P .verdict = B .verdict ∙ ap (λ (p : Parsed). p .verdict) q in
       let made : b .made ≡ P .made = B .made ∙ ap (λ (p : Parsed). p .made) q in
       let end : b .end ≡ P .end = B .end ∙ ap (λ (p : Parsed). p .end) q in
-      let m : machineIn memory store (b .state) (b .cp15) ≡ machineAfter (h .machine) P = B .machine ∙ ap (machineAfter (h .machine)) q in
+      let m : machineIn memory bad store (b .state) (b .cp15) ≡ machineAfter (h .machine) P = B .machine ∙ ap (machineAfter (h .machine)) q in
       let s : g ≡ settled (machineAfter (h .machine) P) (h .lines) (P .made) (P .verdict) rest =
       e ∙ rw (m, made, v, end, w) (settled-same (machineAfter (h .machine) P) (h .lines) (P .made) (P .verdict)
       (drop (P .end) (begunLine h ++ onto (64 - h .held) text)) rest (parsed .open-behind))

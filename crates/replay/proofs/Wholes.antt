@@ -50,11 +50,11 @@ unfolding replayed
 replayed-many ends n h text out e = rw e
 
 -- lines replayed are put out, and what is behind them held
-pub many-is : (ends : Bool) (n : ℕ) (h : Held) (text out memory store after : List ℕ) (b : Batch)
-    → Batched (h .machine) ends (h .lines) n text out memory store after b → h .held ≡ 0 → n * 34 ≤ length out
-    → (g : Held) → g ≡ settled (machineIn memory store (b .state) (b .cp15)) (h .lines) (b .made) (b .verdict) (drop (b .end) text)
+pub many-is : (ends : Bool) (n : ℕ) (h : Held) (text out memory bad store after : List ℕ) (b : Batch)
+    → Batched (h .machine) ends (h .lines) n text out memory bad store after b → h .held ≡ 0 → n * 34 ≤ length out
+    → (g : Held) → g ≡ settled (machineIn memory bad store (b .state) (b .cp15)) (h .lines) (b .made) (b .verdict) (drop (b .end) text)
     → (taken : ℕ) → taken ≡ cond (eqb (b .verdict) 0) (b .end) (length text) → partedFrom g taken (b .written) after 0 ≡ replayed ends n h text out
-many-is ends n h text out memory store after b k z w g e taken t =
+many-is ends n h text out memory bad store after b k z w g e taken t =
     let P : Parsed = parse ends n text in
     let bytes = printed (h .lines + 1) (parsedAnswers (h .machine) P) in
     let s : g ≡ settled (machineAfter (h .machine) P) (h .lines) (P .made) (P .verdict) (drop (P .end) text) =

@@ -31,9 +31,13 @@ replayFrom m text = prints next answered m 1 text
 abbrev pub zeroMemory : List ℕ
 zeroMemory = replicate 65536 0
 
+-- no word of them is bad
+abbrev pub zeroMap : List ℕ
+zeroMap = replicate 16384 0
+
 -- a start on them, with a cache store of zero bytes
 abbrev pub zeroMachine : Machine
-zeroMachine = started zeroMemory (replicate 16384 0) .machine
+zeroMachine = started zeroMemory zeroMap (replicate 16384 0) .machine
 
 abbrev pub replay : List ℕ → List ℕ
 replay text = replayFrom zeroMachine text

@@ -38,21 +38,22 @@ fn taken_by(verdict: u32, at: usize, n: usize) -> usize
 fn replay_many(
     replay: Replay,
     memory: &mut [u8],
+    bad: &[u8],
     store: &mut [u8],
     text: &[u8],
     ends: bool,
     out: &mut [u8],
 ) -> Part
     requires { ⌜ (replay .lines ≤ linesLimit) × (replay .held ≡ 0) × (34 ≤ length (now out)) ⌝ }
-    ensures { λ r. ⌜ code.partedOf (now (memory .exit)) (now (store .exit)) (now (out .exit)) r
-        ≡ spec.replayed ends (min (length (now (out .entry)) / 34) 1024) (code.heldOf (now (memory .entry)) (now (store .entry)) replay)
+    ensures { λ r. ⌜ code.partedOf (now (memory .exit)) (now (bad .entry)) (now (store .exit)) (now (out .exit)) r
+        ≡ spec.replayed ends (min (length (now (out .entry)) / 34) 1024) (code.heldOf (now (memory .entry)) (now (bad .entry)) (now (store .entry)) replay)
         (now (text .entry)) (now (out .entry)) ⌝ }
 {
     let state = replay.state;
     let cp15 = replay.cp15;
     let lines = replay.lines;
     let n = pieces::least(out.len() / printed::WIDEST, BATCH);
-    let b = batch::replay_lines(state, cp15, memory, store, text, ends, lines, n, out);
+    let b = batch::replay_lines(state, cp15, memory, bad, store, text, ends, lines, n, out);
     let mut after = held::settled(b, lines, text);
     after.taken = taken_by(b.verdict, b.end, text.len());
     after.written = b.written;
@@ -66,14 +67,15 @@ fn replay_many(
 fn replay_one(
     replay: Replay,
     memory: &mut [u8],
+    bad: &[u8],
     store: &mut [u8],
     text: &[u8],
     ends: bool,
     out: &mut [u8],
 ) -> Part
     requires { ⌜ spec.kept (replay .lines) (replay .held) (replay .waiting) (replay .begun) ≡ true ⌝ }
-    ensures { λ r. ⌜ code.partedOf (now (memory .exit)) (now (store .exit)) (now (out .exit)) r
-        ≡ spec.replayed ends 1 (code.heldOf (now (memory .entry)) (now (store .entry)) replay) (now (text .entry)) (now (out .entry)) ⌝ }
+    ensures { λ r. ⌜ code.partedOf (now (memory .exit)) (now (bad .entry)) (now (store .exit)) (now (out .exit)) r
+        ≡ spec.replayed ends 1 (code.heldOf (now (memory .entry)) (now (bad .entry)) (now (store .entry)) replay) (now (text .entry)) (now (out .entry)) ⌝ }
 {
     let state = replay.state;
     let cp15 = replay.cp15;
@@ -88,6 +90,7 @@ fn replay_one(
         state,
         cp15,
         memory,
+        bad,
         store,
         whole,
         last,
@@ -119,33 +122,36 @@ fn is_roomy(held: usize, room: usize) -> bool
 fn replay_text(
     replay: Replay,
     memory: &mut [u8],
+    bad: &[u8],
     store: &mut [u8],
     text: &[u8],
     ends: bool,
     out: &mut [u8],
 ) -> Part
     requires { ⌜ spec.kept (replay .lines) (replay .held) (replay .waiting) (replay .begun) ≡ true ⌝ }
-    ensures { λ r. ⌜ code.partedOf (now (memory .exit)) (now (store .exit)) (now (out .exit)) r
+    ensures { λ r. ⌜ code.partedOf (now (memory .exit)) (now (bad .entry)) (now (store .exit)) (now (out .exit)) r
         ≡ spec.replayed ends (spec.linesAtMost (replay .held) (length (now (out .entry))))
-        (code.heldOf (now (memory .entry)) (now (store .entry)) replay) (now (text .entry)) (now (out .entry)) ⌝ }
+        (code.heldOf (now (memory .entry)) (now (bad .entry)) (now (store .entry)) replay) (now (text .entry)) (now (out .entry)) ⌝ }
 {
     if is_roomy(replay.held, out.len()) {
-        return replay_many(replay, memory, store, text, ends, out);
+        return replay_many(replay, memory, bad, store, text, ends, out);
     }
-    replay_one(replay, memory, store, text, ends, out)
+    replay_one(replay, memory, bad, store, text, ends, out)
 }
 
 // A part of a text; `ends` is not 0 where the text ends with it.
 pub fn replay_part(
     replay: Replay,
     memory: &mut [u8],
+    bad: &[u8],
     store: &mut [u8],
     text: &[u8],
     ends: u32,
     out: &mut [u8],
 ) -> Part
-    ensures { λ r. ⌜ code.partedOf (now (memory .exit)) (now (store .exit)) (now (out .exit)) r
-        ≡ spec.part (code.flag ends) (code.heldOf (now (memory .entry)) (now (store .entry)) replay) (now (text .entry)) (now (out .entry)) ⌝ }
+    ensures { λ r. ⌜ code.partedOf (now (memory .exit)) (now (bad .entry)) (now (store .exit)) (now (out .exit)) r
+        ≡ spec.part (code.flag ends) (code.heldOf (now (memory .entry)) (now (bad .entry)) (now (store .entry)) replay) (now (text .entry))
+        (now (out .entry)) ⌝ }
 {
     let begun = replay.begun;
     let pending = replay.pending;
@@ -156,7 +162,7 @@ pub fn replay_part(
         if replay.stopped != 0 {
             return held::passed(replay, text.len(), 0);
         }
-        return replay_text(replay, memory, store, text, ends != 0, out);
+        return replay_text(replay, memory, bad, store, text, ends != 0, out);
     }
     held::passed(replay, 0, 3)
 }

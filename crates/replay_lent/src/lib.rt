@@ -9,16 +9,18 @@ use replay::Replay;
 pub extern "C" fn sa110_replay(
     replay: &mut Replay,
     memory: &mut [u8],
+    bad: &[u8],
     store: &mut [u8],
     text: &[u8],
     ends: u32,
     out: &mut [u8],
 ) -> u32
     ensures { λ r.
-        ⌜ partedOf (now (memory .exit)) (now (store .exit)) (now (out .exit)) (record { replay = now (replay .exit); refusal = r })
-        ≡ part (flag ends) (heldOf (now (memory .entry)) (now (store .entry)) (now (replay .entry))) (now (text .entry)) (now (out .entry)) ⌝ }
+        ⌜ partedOf (now (memory .exit)) (now (bad .entry)) (now (store .exit)) (now (out .exit)) (record { replay = now (replay .exit); refusal = r })
+        ≡ part (flag ends) (heldOf (now (memory .entry)) (now (bad .entry)) (now (store .entry)) (now (replay .entry))) (now (text .entry))
+        (now (out .entry)) ⌝ }
 {
-    let r = replay::replay_part(*replay, memory, store, text, ends, out);
+    let r = replay::replay_part(*replay, memory, bad, store, text, ends, out);
     *replay = r.replay;
     r.refusal
 }

@@ -1,4 +1,4 @@
-// Replays a trace kept as text: standard input to standard output, in blocks, on 65,536 zero bytes of memory.
+// Replays a trace kept as text: standard input to standard output, in blocks, on 65,536 zero bytes of memory with no bad word.
 ghost use lib.ListN.{length};
 ghost use Prim.Native.Nat.{_+_, _≤_};
 use libc::STDERR_FILENO;
@@ -29,6 +29,7 @@ fn write_lines(lines: &[u8], refusal: u32) -> bool {
 fn replay_from(
     replay: Replay,
     memory: &mut [u8],
+    bad: &[u8],
     store: &mut [u8],
     block: &[u8],
     at: usize,
@@ -38,7 +39,7 @@ fn replay_from(
     requires { ⌜ at ≤ length (now block) ⌝ }
     ensures { λ r. ⌜ at + r .replay .taken ≤ length (now (block .entry)) ⌝ }
 {
-    let p = replay::replay_part(replay, memory, store, &block[at..], ends, out);
+    let p = replay::replay_part(replay, memory, bad, store, &block[at..], ends, out);
     let after = p.replay;
     let written = after.written;
     let goes = write_lines(&out[..written], p.refusal);
@@ -60,6 +61,7 @@ fn is_done(taken: usize, written: usize) -> bool {
 fn replay_block(
     first: Replay,
     memory: &mut [u8],
+    bad: &[u8],
     store: &mut [u8],
     block: &[u8],
     ends: u32,
@@ -70,7 +72,7 @@ fn replay_block(
     // a proved loop has to end: no block takes so many parts
     let mut turns = u64::MAX;
     while turns > 0 {
-        let g = replay_from(replay, memory, store, block, at, ends, out);
+        let g = replay_from(replay, memory, bad, store, block, at, ends, out);
         if !g.goes {
             return g;
         }
@@ -93,6 +95,7 @@ fn replay_block(
 fn replay_input(
     replay: Replay,
     memory: &mut [u8],
+    bad: &[u8],
     store: &mut [u8],
     block: &mut [u8],
     out: &mut [u8],
@@ -107,14 +110,14 @@ fn replay_input(
     }
     let n = io::count(got, block);
     if n == 0 {
-        let last = replay_block(replay, memory, store, &block[..0], 1, out);
+        let last = replay_block(replay, memory, bad, store, &block[..0], 1, out);
         let after = last.replay;
         return Going {
             replay: after,
             goes: false,
         };
     }
-    let g = replay_block(replay, memory, store, &block[..n], 0, out);
+    let g = replay_block(replay, memory, bad, store, &block[..n], 0, out);
     let after = g.replay;
     Going {
         replay: after,
@@ -144,6 +147,7 @@ fn main() {
         return;
     }
     let mut memory = [0u8; 65536];
+    let bad = [0u8; 16384];
     let mut store = [0u8; 16384];
     let mut block = [0u8; 65536];
     let mut out = [0u8; 65536];
@@ -152,7 +156,7 @@ fn main() {
     // a proved loop has to end: no input has so many blocks
     let mut turns = u64::MAX;
     while turns > 0 {
-        let g = replay_input(replay, &mut memory, &mut store, &mut block, &mut out);
+        let g = replay_input(replay, &mut memory, &bad, &mut store, &mut block, &mut out);
         if !g.goes {
             return;
         }

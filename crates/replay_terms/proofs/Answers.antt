@@ -40,7 +40,7 @@ use Rattle.step.specs.Call.{done, served}
 use Rattle.step.specs.Run.{next, answered}
 use Rattle.terms.specs.Term1.{ValueOrFault}
 use Rattle.terms.proofs.Answers.{call-by-refusal}
-use Rattle.answers.proofs.Ranges.{refusal-low}
+use Rattle.answers.proofs.Ranges.{isNumber, refusal-numbered}
 use Rattle.batch.specs.Batch.{refused13}
 use Rattle.replay.specs.Replay.{lineAnswers}
 use Rattle.replay_terms.specs.Printed.{AsMany, Without13, ThirteenLast, storesOrWrites, ZeroPrinted}
@@ -83,8 +83,8 @@ not-thirteen m c e =
     let f = t .refused (eqb-false (refusal m c) 0 z) in
     let g : answer.Refused (refusal m c) ≡ answer.Refused 13 = ap (λ (x : Stepped). x .answer) (sym f) ∙ e in
     let k : refusal m c ≡ 13 = cc in
-    let low = refusal-low m c in
-    absurd (omega arith))
+    let n : isNumber 13 ≡ true = subst (λ (x : ℕ). isNumber x ≡ true) k (refusal-numbered m c) in
+    clash n refl)
 
 -- nor any of a list of calls
 answers-without : (m : Machine) (cs : List Call) → Without13 (answersOf next answered m cs)

@@ -22,7 +22,7 @@ use Rattle.terms.proofs.Term3.{term3}
 use Rattle.terms.proofs.Positions.{same-rules}
 use Rattle.terms.proofs.Corollaries.{calls-numbers}
 use Rattle.batch.specs.Batch.{refused13}
-use Rattle.replay.specs.Replay.{lineAnswers, zeroMemory}
+use Rattle.replay.specs.Replay.{lineAnswers, zeroMemory, zeroMap}
 use Rattle.replay_terms.specs.Printed.{PlainReplay, PlainReplayPrinted}
 
 -- ---- the numbers of a line have 32 bits
@@ -47,9 +47,9 @@ pub start-served : startRefusal zeroMemory (replicate 16384 0) ≡ 0
 unfolding startRefusal firstMet
 start-served = refl
 
-module _ (text : List ℕ) (k : Keeps (plainStart zeroMemory) noHistory (callsOf (linesOf text))) where
+module _ (text : List ℕ) (k : Keeps (plainStart zeroMemory zeroMap) noHistory (callsOf (linesOf text))) where
   -- the run of the text's calls, as term 3 asks for it
-  zero-run : Run zeroMemory (replicate 16384 0) (callsOf (linesOf text))
+  zero-run : Run zeroMemory zeroMap (replicate 16384 0) (callsOf (linesOf text))
   zero-run =
       record {
         memory-bytes = bytes-zeros 65536;
@@ -64,9 +64,9 @@ pub plain-replay : PlainReplay
 unfolding lineAnswers
 plain-replay text k =
     let lines = linesOf text in
-    let t = term3 zeroMemory (replicate 16384 0) (callsOf lines) (zero-run text k) in
+    let t = term3 zeroMemory zeroMap (replicate 16384 0) (callsOf lines) (zero-run text k) in
     ap (λ (l : List Answer). printed 1 (l ++ cond (departs lines) refused13 [])) (t .same-answers)
 
 -- the rules over positions
 pub plain-replay-printed : PlainReplayPrinted
-plain-replay-printed text k = plain-replay text (same-rules zeroMemory (callsOf (linesOf text)) .rules .1 k)
+plain-replay-printed text k = plain-replay text (same-rules zeroMemory zeroMap (callsOf (linesOf text)) .rules .1 k)

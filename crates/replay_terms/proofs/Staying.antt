@@ -27,7 +27,7 @@ use Rattle.terms.proofs.Corollaries.{calls-numbers}
 use Rattle.answers.proofs.Told.{run-told, served-formed}
 use Rattle.pieces.specs.Pieces.{isFeed}
 use Rattle.batch.specs.Batch.{refused13, linesLimit, machineAfter, parsedAnswers, stops}
-use Rattle.replay.specs.Replay.{zeroMachine, zeroMemory}
+use Rattle.replay.specs.Replay.{zeroMachine, zeroMemory, zeroMap}
 use Rattle.replay.specs.Parts as parts
 use Rattle.replay.specs.Parts.{Held, begunLine, waitingBytes, Parted, putOut, linesAtMost, carried, settled, replayed}
 use Rattle.held.proofs.Keeping.{kept-all, kept-means}
@@ -249,7 +249,7 @@ stays-kept = stays
 
 -- the machine of a start on zero bytes has its shape
 zero-formed : Formed zeroMachine
-zero-formed = start-sound zeroMemory (replicate 16384 0) (bytes-zeros 65536) (bytes-zeros 16384) start-served .0
+zero-formed = start-sound zeroMemory zeroMap (replicate 16384 0) (bytes-zeros 65536) (bytes-zeros 16384) start-served .0
 
 pub starts-well : StartsWell
 unfolding any

@@ -130,7 +130,7 @@ all-printed h text us n d =
 -- a start holds nothing
 pub start-begins : StartBegins
 unfolding startReplay
-start-begins memory store =
+start-begins memory bad store =
     record {
       nothing-held = record { no-lines = refl; none-begun = refl; none-waiting = refl; not-stopped = refl };
       machine = refl;

@@ -20,7 +20,7 @@ use Rattle.terms.specs.History.{noHistory}
 use Rattle.terms.specs.Rules.{Keeps}
 use Rattle.terms.specs.Positions.{keepsRules}
 use Rattle.batch.specs.Batch.{refused13}
-use Rattle.replay.specs.Replay.{lineAnswers, prints, replayFrom, zeroMemory, replay}
+use Rattle.replay.specs.Replay.{lineAnswers, prints, replayFrom, zeroMemory, zeroMap, replay}
 
 -- ---- the example
 
@@ -85,11 +85,11 @@ ZeroPrinted = (m : Machine) (c : Call) → storesOrWrites c ≡ true → numbers
 
 -- what the plain machine prints of a text
 abbrev pub plainReplay : List ℕ → List ℕ
-plainReplay text = prints plainNext plainAnswered (plainStart zeroMemory) 1 text
+plainReplay text = prints plainNext plainAnswered (plainStart zeroMemory zeroMap) 1 text
 
 -- Term 3, of a text: where its calls keep the rules, the replay prints what the plain machine prints. With the rules call by call, and over positions.
 abbrev pub PlainReplay : Type 0
-PlainReplay = (text : List ℕ) → Keeps (plainStart zeroMemory) noHistory (callsOf (linesOf text)) → replay text ≡ plainReplay text
+PlainReplay = (text : List ℕ) → Keeps (plainStart zeroMemory zeroMap) noHistory (callsOf (linesOf text)) → replay text ≡ plainReplay text
 
 abbrev pub PlainReplayPrinted : Type 0
-PlainReplayPrinted = (text : List ℕ) → keepsRules zeroMemory (callsOf (linesOf text)) ≡ true → replay text ≡ plainReplay text
+PlainReplayPrinted = (text : List ℕ) → keepsRules zeroMemory zeroMap (callsOf (linesOf text)) ≡ true → replay text ≡ plainReplay text

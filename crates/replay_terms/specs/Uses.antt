@@ -125,13 +125,13 @@ StaysKept = (h : Held) (left : List ℕ) (u : Use) → Well h → used h left u 
 abbrev pub StartsWell : Type 0
 StartsWell = (h : Held) → NothingHeld h → h .machine ≡ zeroMachine → Well h
 
--- A start holds nothing, on the machine that the library's start makes; on 65,536 zero bytes with a cache store of zeros that is the replay's.
-pub record Begins (memory store : List ℕ) : Type 0 where
-  pub nothing-held : NothingHeld (startReplay memory store .replay)
-  pub machine : startReplay memory store .replay .machine ≡ started memory store .machine
+-- A start holds nothing, on the machine that the library's start makes; on 65,536 zero bytes with a map and a cache store of zeros that is the replay's.
+pub record Begins (memory bad store : List ℕ) : Type 0 where
+  pub nothing-held : NothingHeld (startReplay memory bad store .replay)
+  pub machine : startReplay memory bad store .replay .machine ≡ started memory bad store .machine
 
 abbrev pub StartBegins : Type 0
-StartBegins = (memory store : List ℕ) → Begins memory store
+StartBegins = (memory bad store : List ℕ) → Begins memory bad store
 
 -- how many lines there are in all: those replayed, and those of the line begun and the rest of the text, unless a line departed
 unfoldable pub linesInAll : Held → List ℕ → ℕ

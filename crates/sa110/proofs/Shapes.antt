@@ -81,33 +81,33 @@ module _ (l : Lists) (es : List ℕ) (s : Scalars) (n : ℕ) (e : length es ≡ 
 -- ---- a state by value
 
 -- the lists of a state, with the places' bytes by themselves
-abbrev pub listsIn : List ℕ → List ℕ → State → List (List ℕ) → Lists
-listsIn memory store s bs =
-    (lists memory (s .words) bs (s .lines) (s .pointers) store)
+abbrev pub listsIn : List ℕ → List ℕ → List ℕ → State → List (List ℕ) → Lists
+listsIn memory bad store s bs =
+    (lists memory bad (s .words) bs (s .lines) (s .pointers) store)
 
 abbrev pub scalarsIn : State → Cp15 → Scalars
 scalarsIn s r = (scalarsFrom r (s .counts) (s .used))
 
-module _ (memory store : List ℕ) (s : State) (r : Cp15) (bs : List (List ℕ)) (b : bs ≡ bytesOf (s .slots))
-    (h : stateRefusal (machineIn memory store s r) ≡ 0) where
-  acc : Accepts (machineIn memory store s r)
-  acc = accepts (machineIn memory store s r) h
+module _ (memory bad store : List ℕ) (s : State) (r : Cp15) (bs : List (List ℕ)) (b : bs ≡ bytesOf (s .slots))
+    (h : stateRefusal (machineIn memory bad store s r) ≡ 0) where
+  acc : Accepts (machineIn memory bad store s r)
+  acc = accepts (machineIn memory bad store s r) h
 
   pub serves-of : length (s .entries) ≡ 32 → length (s .lines) ≡ 512 → length (s .pointers) ≡ 16 → length (s .words) ≡ 8 → length bs ≡ 8
       → ((i : ℕ) → Row (getD bs i (replicate 16 0))) → Bytes memory → Bytes store
-      → Serves (machineOf (listsIn memory store s bs) (s .entries) (scalarsIn s r) (length memory))
+      → Serves (machineOf (listsIn memory bad store s bs) (s .entries) (scalarsIn s r) (length memory))
   serves-of e ls ps ws k rows mb sb =
       let a = acc in
-      let f = formed-of (listsIn memory store s bs) (s .entries) (scalarsIn s r) (s .size) e ls ps (a .store) sb ws k rows (a .whole) (a .short) mb in
-      subst (λ (n : ℕ). Serves (machineOf (listsIn memory store s bs) (s .entries) (scalarsIn s r) n)) (a .size)
-      (subst (λ (x : List (List ℕ)). Formed (machineOf (listsIn memory store s x) (s .entries) (scalarsIn s r) (s .size)) →
-      Serves (machineOf (listsIn memory store s x) (s .entries) (scalarsIn s r) (s .size))) (sym b)
-      (λ g. record { formed = g; is-sound = a .is-sound; size = a .size }) f)
+      let f = formed-of (listsIn memory bad store s bs) (s .entries) (scalarsIn s r) (s .size) e ls ps (a .store) sb ws k rows (a .whole) (a .short) mb in
+      subst (λ (n : ℕ). Serves (machineOf (listsIn memory bad store s bs) (s .entries) (scalarsIn s r) n)) (a .size)
+      (subst (λ (x : List (List ℕ)). Formed (machineOf (listsIn memory bad store s x) (s .entries) (scalarsIn s r) (s .size)) →
+      Serves (machineOf (listsIn memory bad store s x) (s .entries) (scalarsIn s r) (s .size))) (sym b)
+      (λ g. record { formed = g; is-sound = a .is-sound; size = a .size; map-fits = a .map-fits }) f)
 
   pub called-by : (k : Lists) (fs : List ℕ) (o : Outcome) (c : Call) (held : List SlotBytes)
-      → steppedOf k fs (length memory) o ≡ served (machineOf (listsIn memory store s bs) (s .entries) (scalarsIn s r) (length memory)) c
+      → steppedOf k fs (length memory) o ≡ served (machineOf (listsIn memory bad store s bs) (s .entries) (scalarsIn s r) (length memory)) c
       → bytesOf held ≡ k .bytes
-      → calledOf (k .memory) (k .store) (record {
+      → calledOf (k .memory) (k .bad) (k .store) (record {
         state = record {
           size = s .size;
           counts = o .scalars .counts;
@@ -121,17 +121,17 @@ module _ (memory store : List ℕ) (s : State) (r : Cp15) (bs : List (List ℕ))
         cp15 = o .scalars .cp15;
         answer = o .answer;
       })
-      ≡ served (machineIn memory store s r) c
+      ≡ served (machineIn memory bad store s r) c
   called-by k fs o c held e g =
       let a = acc in
       rw (g, a .size) (subst (λ (x : List (List ℕ)). steppedOf k fs (length memory) o
-      ≡ served (machineOf (listsIn memory store s x) (s .entries) (scalarsIn s r) (length memory)) c) b e)
+      ≡ served (machineOf (listsIn memory bad store s x) (s .entries) (scalarsIn s r) (length memory)) c) b e)
 
   pub ran-by : (k : Lists) (fs answers : List ℕ) (t : Scalars) (made : ℕ) (held : List SlotBytes) (n : ℕ) (calls old : List ℕ)
       → leaves (machineOf k fs t (length memory)) answers made
-      ≡ leftBy (machineOf (listsIn memory store s bs) (s .entries) (scalarsIn s r) (length memory)) (callsIn n calls 0) old
+      ≡ leftBy (machineOf (listsIn memory bad store s bs) (s .entries) (scalarsIn s r) (length memory)) (callsIn n calls 0) old
       → bytesOf held ≡ k .bytes
-      → ranOf (k .memory) (k .store) answers (record {
+      → ranOf (k .memory) (k .bad) (k .store) answers (record {
         state = record {
           size = s .size;
           counts = t .counts;
@@ -145,8 +145,8 @@ module _ (memory store : List ℕ) (s : State) (r : Cp15) (bs : List (List ℕ))
         cp15 = t .cp15;
         made = made;
       })
-      ≡ leftBy (machineIn memory store s r) (callsIn n calls 0) old
+      ≡ leftBy (machineIn memory bad store s r) (callsIn n calls 0) old
   ran-by k fs answers t made held n calls old e g =
       let a = acc in
       rw (g, a .size) (subst (λ (x : List (List ℕ)). leaves (machineOf k fs t (length memory)) answers made
-      ≡ leftBy (machineOf (listsIn memory store s x) (s .entries) (scalarsIn s r) (length memory)) (callsIn n calls 0) old) b e)
+      ≡ leftBy (machineOf (listsIn memory bad store s x) (s .entries) (scalarsIn s r) (length memory)) (callsIn n calls 0) old) b e)

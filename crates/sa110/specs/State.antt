@@ -8,9 +8,9 @@ use Rattle.sa110.specs.declared.Ran.{Ran}
 pub use Rattle.state.specs.State.{bytesOf, machineIn, startedOf}
 
 -- what a call leaves, with the lent bytes
-abbrev pub calledOf : List ℕ → List ℕ → Called → Stepped
-calledOf memory store c = (steppedFrom (machineIn memory store (c .state) (c .cp15)) (c .answer))
+abbrev pub calledOf : List ℕ → List ℕ → List ℕ → Called → Stepped
+calledOf memory bad store c = (steppedFrom (machineIn memory bad store (c .state) (c .cp15)) (c .answer))
 
 -- what a run leaves, with the lent lists
-abbrev pub ranOf : List ℕ → List ℕ → List ℕ → Ran → Left Machine
-ranOf memory store answers r = leaves (machineIn memory store (r .state) (r .cp15)) answers (r .made)
+abbrev pub ranOf : List ℕ → List ℕ → List ℕ → List ℕ → Ran → Left Machine
+ranOf memory bad store answers r = leaves (machineIn memory bad store (r .state) (r .cp15)) answers (r .made)

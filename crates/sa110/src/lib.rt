@@ -24,11 +24,18 @@ pub struct Called {
     pub answer: Answer,
 }
 
-// A call on a machine that refusals 1 to 4 do not hold of.
-fn serve(state: State, cp15: Cp15, memory: &mut [u8], store: &mut [u8], c: Call) -> Called
-    requires { ⌜ stateRefusal (machineIn (now memory) (now store) state cp15) ≡ 0 ⌝ }
-    ensures { λ r. ⌜ calledOf (now (memory .exit)) (now (store .exit)) r
-        ≡ spec.served (machineIn (now (memory .entry)) (now (store .entry)) state cp15) c ⌝ }
+// A call on a machine that refusals 1 to 4 and 16 do not hold of.
+fn serve(
+    state: State,
+    cp15: Cp15,
+    memory: &mut [u8],
+    bad: &[u8],
+    store: &mut [u8],
+    c: Call,
+) -> Called
+    requires { ⌜ stateRefusal (machineIn (now memory) (now bad) (now store) state cp15) ≡ 0 ⌝ }
+    ensures { λ r. ⌜ calledOf (now (memory .exit)) (now (bad .entry)) (now (store .exit)) r
+        ≡ spec.served (machineIn (now (memory .entry)) (now (bad .entry)) (now (store .entry)) state cp15) c ⌝ }
 {
     let table = rights::table();
     let mut entries = state.entries;
@@ -42,6 +49,7 @@ fn serve(state: State, cp15: Cp15, memory: &mut [u8], store: &mut [u8], c: Call)
     let o = step::step(
         &table,
         memory,
+        bad,
         &mut words,
         &mut bytes,
         &mut lines,
@@ -73,12 +81,19 @@ fn serve(state: State, cp15: Cp15, memory: &mut [u8], store: &mut [u8], c: Call)
     }
 }
 
-// One call: refusals 1 to 12 in document 01's order, each changing nothing.
-pub fn call(state: State, cp15: Cp15, memory: &mut [u8], store: &mut [u8], c: Call) -> Called
-    ensures { λ r. ⌜ calledOf (now (memory .exit)) (now (store .exit)) r
-        ≡ spec.served (machineIn (now (memory .entry)) (now (store .entry)) state cp15) c ⌝ }
+// One call: refusals 1 to 4, 16, and 5 to 12, in this order, each changing nothing.
+pub fn call(
+    state: State,
+    cp15: Cp15,
+    memory: &mut [u8],
+    bad: &[u8],
+    store: &mut [u8],
+    c: Call,
+) -> Called
+    ensures { λ r. ⌜ calledOf (now (memory .exit)) (now (bad .entry)) (now (store .exit)) r
+        ≡ spec.served (machineIn (now (memory .entry)) (now (bad .entry)) (now (store .entry)) state cp15) c ⌝ }
 {
-    let n = state::state_refusal(state, cp15, memory, store);
+    let n = state::state_refusal(state, cp15, memory, bad, store);
     if n != 0 {
         return Called {
             state,
@@ -86,7 +101,7 @@ pub fn call(state: State, cp15: Cp15, memory: &mut [u8], store: &mut [u8], c: Ca
             answer: Answer::Refused(n),
         };
     }
-    serve(state, cp15, memory, store, c)
+    serve(state, cp15, memory, bad, store, c)
 }
 
 // What a run leaves beside the lent lists.
@@ -96,20 +111,22 @@ pub struct Ran {
     pub made: usize,
 }
 
-// The first n calls of a list on a machine that refusals 1 to 4 do not hold of.
+// The first n calls of a list on a machine that refusals 1 to 4 and 16 do not hold of.
 fn run_served(
     state: State,
     cp15: Cp15,
     memory: &mut [u8],
+    bad: &[u8],
     store: &mut [u8],
     calls: &[u32],
     answers: &mut [u64],
     n: usize,
 ) -> Ran
-    requires { ⌜ (stateRefusal (machineIn (now memory) (now store) state cp15) ≡ 0) × Holds (now calls) (now answers) n ⌝ }
+    requires { ⌜ (stateRefusal (machineIn (now memory) (now bad) (now store) state cp15) ≡ 0) × Holds (now calls) (now answers) n ⌝ }
     ensures { λ r.
-        ⌜ ranOf (now (memory .exit)) (now (store .exit)) (now (answers .exit)) r
-        ≡ runs.leftBy (machineIn (now (memory .entry)) (now (store .entry)) state cp15) (callsIn n (now (calls .entry)) 0) (now (answers .entry)) ⌝ }
+        ⌜ ranOf (now (memory .exit)) (now (bad .entry)) (now (store .exit)) (now (answers .exit)) r
+        ≡ runs.leftBy (machineIn (now (memory .entry)) (now (bad .entry)) (now (store .entry)) state cp15) (callsIn n (now (calls .entry)) 0)
+        (now (answers .entry)) ⌝ }
 {
     let table = rights::table();
     let mut entries = state.entries;
@@ -123,6 +140,7 @@ fn run_served(
     let f = step::run_calls(
         &table,
         memory,
+        bad,
         &mut words,
         &mut bytes,
         &mut lines,
@@ -156,21 +174,22 @@ fn run_served(
 }
 
 // A run over a list of calls, of five numbers each: as many as the lists of calls and answers hold, up to five numbers that are no call.
-// It is the fold of `call`; refusals 1 to 4 are tested once.
+// It is the fold of `call`; refusals 1 to 4 and 16 are tested once.
 pub fn run(
     state: State,
     cp15: Cp15,
     memory: &mut [u8],
+    bad: &[u8],
     store: &mut [u8],
     calls: &[u32],
     answers: &mut [u64],
 ) -> Ran
     ensures { λ r.
-        ⌜ ranOf (now (memory .exit)) (now (store .exit)) (now (answers .exit)) r
-        ≡ runs.run (machineIn (now (memory .entry)) (now (store .entry)) state cp15) (now (calls .entry)) (now (answers .entry)) ⌝ }
+        ⌜ ranOf (now (memory .exit)) (now (bad .entry)) (now (store .exit)) (now (answers .exit)) r
+        ≡ runs.run (machineIn (now (memory .entry)) (now (bad .entry)) (now (store .entry)) state cp15) (now (calls .entry)) (now (answers .entry)) ⌝ }
 {
     let n = trace::calls_held(calls, answers);
-    let refusal = state::state_refusal(state, cp15, memory, store);
+    let refusal = state::state_refusal(state, cp15, memory, bad, store);
     if refusal != 0 {
         return Ran {
             state,
@@ -178,5 +197,5 @@ pub fn run(
             made: step::refuse_calls(calls, answers, n, refusal),
         };
     }
-    run_served(state, cp15, memory, store, calls, answers, n)
+    run_served(state, cp15, memory, bad, store, calls, answers, n)
 }

@@ -1,13 +1,13 @@
 -- An access keeps a machine sound.
-use Prim.Native.Nat.{ℕ, _+_, _*_, _<_, _≤_}
+use Prim.Native.Nat.{ℕ, _+_, _*_, _/_, _<_, _≤_}
 use native.Mathlib.Omega.{arith}
 use mathlib.Core.Bool.{true, false, _||_}
 use mathlib.Core.Path.{_≡_, refl, _∙_}
 use lib.Dec.{eqb}
 use lib.ListN.{length}
-use borrow.Author.Tests.{eqb-true}
-use Rattle.values.specs.Addresses.{blockOf, physicalLine}
-use Rattle.values.specs.Counts.{counted, hit, sent}
+use borrow.Author.Tests.{eqb-true, ltb-false}
+use Rattle.values.specs.Addresses.{blockOf}
+use Rattle.values.specs.Counts.{counted, hit}
 use Rattle.values.specs.Counts as counts
 use Rattle.values.specs.declared.PhysicalAddress.{PhysicalAddress}
 use Rattle.values.specs.declared.Access.{Access}
@@ -19,8 +19,7 @@ use Rattle.values.specs.declared.Search.{Search}
 use Rattle.values.specs.declared.Search.the-variants.{At, Nothing}
 use Rattle.values.proofs.Cases.{case, or-cases}
 use Rattle.words.specs.Words.{isWidth, stored}
-use Rattle.bus.specs.Physical.{aborts}
-use Rattle.bus.proofs.Laws.{answers}
+use Rattle.bus.specs.Physical.{outside, aborts, wantedAborts, lineAborts}
 use Rattle.translation.specs.declared.Translation.{Translation}
 use Rattle.translation.specs.declared.Place.{Place}
 use Rattle.translation.specs.declared.Checked.{Checked}
@@ -37,7 +36,7 @@ use Rattle.soundness_test.specs.Meaning.{linesOf, IsSound}
 use Rattle.soundness_test.specs.Formed.{Formed}
 use Rattle.reach.specs.Reach.{decision, committed, faulted}
 use Rattle.reach.proofs.Bounds.{in-block}
-use Rattle.loads.specs.Loads.{loadHit, loadFill, loadUncached, loadMiss, loadFound, load}
+use Rattle.loads.specs.Loads.{loadHit, afterFill, loadFill, loadUncached, loadMiss, loadFound, load}
 use Rattle.stores.specs.Stores.{storeHit, storeBuffered, storeDirect, storeMiss, storeFound, store}
 use Rattle.swaps.specs.Swaps.{swapHit, swapDirect, swapMiss, swapFound, swap}
 use Rattle.access.specs.Access.{passed, accessAt, access}
@@ -46,7 +45,7 @@ use Rattle.soundness_laws.proofs.RegistersKept.{fault-kept}
 use Rattle.soundness_laws.proofs.TlbKept.{Serves, translation-serves, after-kept, length-after, pointer-after, Decides, decided-ranged}
 use Rattle.soundness_laws.proofs.BackingKept.{drained-kept, ready-kept, buffered-kept, stored-kept}
 use Rattle.soundness_laws.proofs.CacheKept.{hit-kept, filled-kept}
-use Rattle.soundness_laws.proofs.CountsKept.{Room, counted-room, after-room, room-are, hit-are, filled-are}
+use Rattle.soundness_laws.proofs.CountsKept.{Room, counted-room, after-room, room-are, hit-are, sent-are, filled-are}
 use Rattle.soundness_laws.proofs.Holding.{Holding, Kept, Roomy, holding-of, roomy-holding, holding-kept}
 use Rattle.soundness_laws.proofs.Replaced.{holding-with, with-counts, with-registers, with-side, with-cache, with-backing}
 use Rattle.soundness_laws.proofs.Reader.{clauses-parts, sound-of}
@@ -63,13 +62,10 @@ width-some w h =
     or-cases (eqb w 1) (eqb w 2 || eqb w 4) h (λ t. let e = eqb-true w 1 t in omega arith)
     (λ g. or-cases (eqb w 2) (eqb w 4) g (λ t. let e = eqb-true w 2 t in omega arith) (λ t. let e = eqb-true w 4 t in omega arith))
 
--- the line and the block of a word that answers lie inside memory
-module _ (n start : ℕ) (m : Machine) (h : Holding n start m) (pa : PhysicalAddress) (e : aborts (physicalOf m) pa ≡ false) where
-  line-in : physicalLine pa * 32 + 32 ≤ n
-  line-in = let i = answers (physicalOf m) pa e in omega (arith, h .side .backing .memory-long, h .memory-lines)
-
-  block-in : blockOf pa * 16 + 16 ≤ n
-  block-in = let l = line-in in omega arith
+-- the block of a word inside memory lies inside
+block-in : (n start : ℕ) (m : Machine) (h : Holding n start m) (pa : PhysicalAddress) → outside (physicalOf m) pa ≡ false → blockOf pa * 16 + 16 ≤ n
+block-in n start m h pa e =
+    let i = ltb-false (length (memoryOf m)) (pa .0 / 4 * 4 + 4) e in omega (arith, h .side .backing .memory-long, h .memory-lines)
 
 -- ---- through an access
 
@@ -108,6 +104,17 @@ module _ (n start : ℕ) (a : Access) (width : isWidth (a .width) ≡ true) (low
       decided-ranged r a (translation (m .entries) r (physicalOf m) (cleared a))
       (translation-serves (m .entries) r (physicalOf m) (cleared a) (h .entries) (h .side .backing .memory-bytes) (cleared-low a low))
 
+  -- a fault of a call that is done with but for it
+  faulted-kept : (m : Machine) → Done n start m → (s : Status) (d : ℕ) → d < 16 → Done n start (faulted m s d (a .address) .machine)
+  unfolding faulted
+  faulted-kept m k s d e =
+      let f : Fault = record { status = s; domain = d; address = a .address } in
+      record {
+        holding =
+            with-registers n start m (k .holding) (faultSet (m .cp15 .registers) f) (fault-kept (m .cp15 .registers) f (k .holding .registers) e low);
+        counts = k .counts;
+      }
+
   module _ (m : Machine) (k : Amid n start 0 m) where
     abbrev held : Holding n start m
     held = k .holding
@@ -117,13 +124,7 @@ module _ (n start : ℕ) (a : Access) (width : isWidth (a .width) ≡ true) (low
     counts-stay = room-are (m .counts) (linesOf m) 0 (k .room)
 
     faulted-done : (s : Status) (d : ℕ) → d < 16 → Done n start (faulted m s d (a .address) .machine)
-    unfolding faulted
-    faulted-done s d e =
-        let f : Fault = record { status = s; domain = d; address = a .address } in
-        record {
-          holding = with-registers n start m held (faultSet (m .cp15 .registers) f) (fault-kept (m .cp15 .registers) f (held .registers) e low);
-          counts = counts-stay;
-        }
+    faulted-done = faulted-kept m (record { holding = held; counts = counts-stay })
 
     -- ---- loads
 
@@ -136,16 +137,26 @@ module _ (n start : ℕ) (a : Access) (width : isWidth (a .width) ≡ true) (low
         }
 
     module _ (p : Place) (r : PlaceRanged (cleared a) p) where
-      fill-done : find (linesOf m) (cleared a) ≡ Nothing → aborts (physicalOf m) (p .address) ≡ false → Done n start (loadFill m a p .machine)
-      unfolding loadFill
-      fill-done e u =
+      after-done : find (linesOf m) (cleared a) ≡ Nothing → Done n start (afterFill m a p)
+      unfolding afterFill
+      after-done e =
           let s = filled (m .side) (cleared a) (p .address) in
-          let t = filled-kept n (m .side) (cleared a) (p .address) (held .side) e (cleared-low a low) (line-in n start m held (p .address) u) in
+          let t = filled-kept n (m .side) (cleared a) (p .address) (held .side) e (cleared-low a low) in
+          let d = fill-dirties (m .side) (cleared a) (p .address) in
           record {
-            holding = with-counts n start (withSide m (s .side)) (with-side n start m held (s .side) t) (sent (counts.filled (m .counts)) (s .halves));
+            holding = with-counts n start (withSide m (s .side)) (with-side n start m held (s .side) t) _;
             counts =
-                filled-are (m .counts) (linesOf m) (s .side .cache .lines) (s .halves) (fill-dirties (m .side) (cleared a) (p .address)) (k .room);
+                case (lineAborts (physicalOf m) (p .address))
+                (λ u. rw u (sent-are (m .counts) (linesOf m) (s .side .cache .lines) (s .halves) d counts-stay))
+                (λ u. rw u (filled-are (m .counts) (linesOf m) (s .side .cache .lines) (s .halves) d (k .room)));
           }
+
+      fill-done : find (linesOf m) (cleared a) ≡ Nothing → Done n start (loadFill m a p .machine)
+      unfolding loadFill
+      fill-done e =
+          case (wantedAborts (physicalOf m) (p .address))
+          (λ u. rw u (faulted-kept (afterFill m a p) (after-done e) (fillStatus p) (p .domain) (r .domain)))
+          (λ u. rw u (after-done e))
 
       uncached-done : Done n start (loadUncached m a p .machine)
       unfolding loadUncached
@@ -161,10 +172,7 @@ module _ (n start : ℕ) (a : Access) (width : isWidth (a .width) ≡ true) (low
       unfolding loadMiss
       load-miss-done e =
           case (fills (m .cp15 .registers) p)
-          (λ t.
-          case (aborts (physicalOf m) (p .address))
-          (λ u. rw (t, u) (faulted-done (fillStatus p) (p .domain) (r .domain)))
-          (λ u. rw (t, u) (fill-done e u)))
+          (λ t. rw t (fill-done e))
           (λ t.
           case (aborts (physicalOf m) (p .address))
           (λ u. rw (t, u) (faulted-done (otherStatus p) (p .domain) (r .domain)))
@@ -194,7 +202,7 @@ module _ (n start : ℕ) (a : Access) (width : isWidth (a .width) ≡ true) (low
         buffered-done : Done n start (storeBuffered m a v p .machine)
         unfolding storeBuffered
         buffered-done =
-            case (aborts (physicalOf m) (p .address))
+            case (outside (physicalOf m) (p .address))
             (λ u. rw u (record { holding = held; counts = counts-stay }))
             (λ u.
             rw u

@@ -22,7 +22,7 @@ use Rattle.values.specs.declared.Search.the-variants.{At, Nothing}
 use Rattle.values.proofs.Cases.{case, clash, or-none}
 use Rattle.words.specs.Words.{stored, Bytes}
 use Rattle.words.proofs.Laws.{length-stored, byte-before, byte-behind}
-use Rattle.buffer.specs.Buffer.{Backing, withMemory, slotAt, oldestLeft, leaving, drained, behind, pushed, halfPushed}
+use Rattle.buffer.specs.Buffer.{goodMask, Backing, withMemory, slotAt, oldestLeft, leaving, drained, behind, pushed, halfPushed}
 use Rattle.buffer.specs.Buffer.{newestOf, maskOf, joined, newSlot, storedAt, buffered, holds, ready}
 use Rattle.buffer.proofs.Joining.{newest-below}
 use Rattle.buffer.proofs.Lengths.{memory-oldest, memory-behind, slot-oldest, used-oldest, slot-behind, slot-other, used-behind}
@@ -58,7 +58,7 @@ oldest-bytes : (n : ℕ) (b : Backing) → BackingIs n b → Bytes (oldestLeft b
 unfolding oldestLeft
 oldest-bytes n b k =
     let s = slotAt (b .buffer) 0 in
-    bytes-laid (s .bytes) (b .memory) (s .block * 16) (s .mask) (k .memory-bytes) (place-bytes n b k 0)
+    bytes-laid (s .bytes) (b .memory) (s .block * 16) (goodMask (b .bad) (s .block) (s .mask)) (k .memory-bytes) (place-bytes n b k 0)
 
 pub oldest-kept : (n : ℕ) (b : Backing) → BackingIs n b → BackingIs n (oldestLeft b)
 oldest-kept n b k =

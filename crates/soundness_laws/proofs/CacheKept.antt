@@ -18,12 +18,13 @@ use Rattle.values.specs.declared.Search.{Search}
 use Rattle.values.specs.declared.Search.the-variants.{At, Nothing}
 use Rattle.values.proofs.Cases.{case, clash, and-no}
 use Rattle.words.specs.Words.{Bytes}
-use Rattle.buffer.specs.Buffer.{Backing, ready}
-use Rattle.cache.specs.Dcache.{Dcache, Side, lineAt, find, marked, hitStore, halfSent, halvesSent, victim, freshLine, lineRead, filled}
+use Rattle.bus.proofs.Laws.{line-inside}
+use Rattle.buffer.specs.Buffer.{Backing, physicalBehind}
+use Rattle.cache.specs.Dcache.{Dcache, Side, lineAt, matches, find, marked, hitStore, halfSent, halvesSent, victim, freshLine, gaveWay, lineRead, filled}
 use Rattle.cache.specs.Dcache.{cleanLine, cleanedAt, cleaned, flushedAt, lineFlushed, allFlushed}
 use Rattle.cache.proofs.Finds.{found, Missed, missed}
-use Rattle.cache.proofs.PutGet.{valid-marked, tag-marked, frame-marked, turned-low}
-use Rattle.cache.proofs.Unchanged.{CacheShape, shape-with, shape-hit, shape-read, shape-all-flushed, victim-low}
+use Rattle.cache.proofs.PutGet.{valid-marked, tag-marked, frame-marked, turned-low, line-way, other-way, fill-cases}
+use Rattle.cache.proofs.Unchanged.{CacheShape, shape-with, shape-hit, shape-way, shape-read, shape-all-flushed, victim-low}
 use Rattle.soundness_laws.proofs.LowBytes.{bytes-stored, bytes-append, bytes-take, bytes-drop}
 use Rattle.soundness_laws.proofs.Elements.{same-at}
 use Rattle.soundness_laws.proofs.CacheParts.{LineIs, Differ, Apart}
@@ -193,13 +194,33 @@ halves-kept n b l store a h f g k =
 
 -- ---- a fill
 
-pub read-kept : (n : ℕ) (c : Dcache) (va : VirtualAddress) (pa : PhysicalAddress) (m : List ℕ) → CacheIs n c → Missed (c .lines) va
-    → va .0 < 0x100000000 → length m ≡ n → Bytes m → physicalLine pa * 32 + 32 ≤ n → CacheIs n (lineRead c (victim c va) va pa m)
-unfolding lineRead
-read-kept n c va pa m k f h long b g =
+-- the line at the set's pointer gives way
+pub way-kept : (n : ℕ) (s : Side) (va : VirtualAddress) (pa : PhysicalAddress) → SideIs n s → SideIs n (gaveWay s va pa .side)
+unfolding gaveWay
+way-kept n s va pa k =
+    let c = s .cache in
     let i = victim c va in
-    let p = k .pointers (setOf va) in
-    let low : i < 512 = victim-low c va (omega arith) in
+    let low : i < 512 = victim-low c va (let p = k .cache .pointers (setOf va) in omega arith) in
+    let l = lineAt c i in
+    record {
+      cache = record {
+        shape = shape-way c i (setOf va) (k .cache .shape);
+        store-bytes = k .cache .store-bytes;
+        lines = lines-set (c .lines) i emptyLine (k .cache .shape .lines-long) low n (k .cache .lines) (empty-is n);
+        apart = empty-apart (c .lines) i emptyLine (k .cache .shape .lines-long) low refl (k .cache .apart);
+        pointers = turned-low (c .pointers) (setOf va) (k .cache .pointers);
+      };
+      backing =
+          ready-kept n (halvesSent (s .backing) l (c .store) (i * 32)) (physicalLine pa * 32) 32
+          (halves-kept n (s .backing) l (c .store) (i * 32) (k .cache .lines i) (k .cache .store-bytes) (omega (arith, k .cache .shape .store-long))
+          (k .backing));
+    }
+
+-- the line is read into place i of the address's set
+pub read-kept : (n : ℕ) (c : Dcache) (i : ℕ) (va : VirtualAddress) (pa : PhysicalAddress) (m : List ℕ) → i < 512 → i / 32 ≡ setOf va → CacheIs n c
+    → Missed (c .lines) va → va .0 < 0x100000000 → length m ≡ n → Bytes m → physicalLine pa * 32 + 32 ≤ n → CacheIs n (lineRead c i va pa m)
+unfolding lineRead
+read-kept n c i va pa m low in-set k f h long b g =
     let new = freshLine (tagOf va) (physicalLine pa) in
     record {
       shape = shape-read c i va pa m low (omega arith) (k .shape);
@@ -209,29 +230,40 @@ read-kept n c va pa m k f h long b g =
           (bytes-take 32 (drop (physicalLine pa * 32) m) (bytes-drop (physicalLine pa * 32) m b)))
           (bytes-drop (i * 32 + 32) (c .store) (k .store-bytes));
       lines = lines-set (c .lines) i new (k .shape .lines-long) low n (k .lines) (fresh-is n va pa h g);
-      apart = new-apart (c .lines) i new (k .shape .lines-long) low va (in-set p) f refl (k .apart);
-      pointers = turned-low (c .pointers) (setOf va) (k .pointers);
+      apart = new-apart (c .lines) i new (k .shape .lines-long) low va in-set f refl (k .apart);
+      pointers = k .pointers;
     }
-  where
-    in-set : getD (c .pointers) (setOf va) 0 ≤ 31 → (setOf va * 32 + getD (c .pointers) (setOf va) 0) / 32 ≡ setOf va
-    in-set p = omega arith
 
 pub filled-kept : (n : ℕ) (s : Side) (va : VirtualAddress) (pa : PhysicalAddress) → SideIs n s → find (s .cache .lines) va ≡ Nothing
-    → va .0 < 0x100000000 → physicalLine pa * 32 + 32 ≤ n → SideIs n (filled s va pa .side)
-unfolding filled
-filled-kept n s va pa k e h g =
-    let c = s .cache in
-    let i = victim c va in
-    let low : i < 512 = victim-low c va (let p = k .cache .pointers (setOf va) in omega arith) in
-    let l = lineAt c i in
-    let b = ready (halvesSent (s .backing) l (c .store) (i * 32)) (physicalLine pa * 32) 32 in
-    let bk : BackingIs n b =
-    ready-kept n (halvesSent (s .backing) l (c .store) (i * 32)) (physicalLine pa * 32) 32
-    (halves-kept n (s .backing) l (c .store) (i * 32) (k .cache .lines i) (k .cache .store-bytes) (omega (arith, k .cache .shape .store-long)) (k .backing)) in
+    → va .0 < 0x100000000 → SideIs n (filled s va pa .side)
+filled-kept n s va pa k e h =
+    fill-cases s va pa (SideIs n) (λ t. w)
+    (λ t.
+    let inside = line-inside (physicalBehind (s .backing)) pa t in
     record {
-      cache = read-kept n c va pa (b .memory) (k .cache) (missed (c .lines) va e) h (bk .memory-long) (bk .memory-bytes) g;
-      backing = bk;
-    }
+      cache =
+          read-kept n (gaveWay s va pa .side .cache) i va pa (gaveWay s va pa .side .backing .memory) low in-set (w .cache) gone h
+          (w .backing .memory-long) (w .backing .memory-bytes) (omega (arith, k .backing .memory-long));
+      backing = w .backing;
+    })
+  where
+    i : ℕ
+    i = victim (s .cache) va
+
+    w : SideIs n (gaveWay s va pa .side)
+    w = way-kept n s va pa k
+
+    low : i < 512
+    low = victim-low (s .cache) va (let p = k .cache .pointers (setOf va) in omega arith)
+
+    in-set : i / 32 ≡ setOf va
+    in-set = let p = k .cache .pointers (setOf va) in omega arith
+
+    gone : Missed (gaveWay s va pa .side .cache .lines) va
+    gone j f g =
+        case (eqb j i)
+        (λ t. ap (matches va) (ap (lineAt (gaveWay s va pa .side .cache)) (eqb-true j i t) ∙ line-way s va pa))
+        (λ t. ap (matches va) (other-way s va pa j (eqb-false j i t)) ∙ missed (s .cache .lines) va e j f g)
 
 -- ---- a clean, and flushes
 

@@ -30,15 +30,15 @@ entries-none : EntriesAre noEntries
 unfolding flushed
 entries-none = flushed-kept
 
-module _ (size : ℕ) (memory store : List ℕ) where
-  pub fresh-counts : CountsAre (fresh size memory store .counts) (linesOf (fresh size memory store))
+module _ (size : ℕ) (memory bad store : List ℕ) where
+  pub fresh-counts : CountsAre (fresh size memory bad store .counts) (linesOf (fresh size memory bad store))
   unfolding fresh
   fresh-counts =
       let d = sum-replicate dirtyHalves 512 emptyLine refl in
       record { misses = omega arith; hits = omega arith; fills = omega arith; halves = omega arith }
 
   pub fresh-holding : length memory % 32 ≡ 0 → length memory ≤ 0x1000000 → Bytes memory → length store ≡ 16384 → Bytes store
-      → Holding (length memory) size (fresh size memory store)
+      → Holding (length memory) size (fresh size memory bad store)
   unfolding fresh
   fresh-holding ml ms mb sl sb =
       record {

@@ -15,3 +15,4 @@ pub mod Replaced
 pub mod FreshSound
 pub mod AccessKept
 pub mod Cp15Kept
+pub mod MapKept

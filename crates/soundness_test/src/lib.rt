@@ -127,8 +127,8 @@ pub fn sound(
 ) -> bool
     requires { ⌜ (length (now lines) ≡ 512) × (length (now words) ≡ 8) × (length (now bytes) ≡ 8) ⌝ }
     ensures { λ r.
-        ⌜ ((memory store : List ℕ) (size : ℕ) → length memory ≡ n → r ≡ spec.sound
-        (machineFrom cp15 (entriesOf (now (entries .entry))) (sideOf memory (now (words .entry)) (now (bytes .entry)) used (now (lines .entry)) (now
+        ⌜ ((memory bad store : List ℕ) (size : ℕ) → length memory ≡ n → r ≡ spec.sound
+        (machineFrom cp15 (entriesOf (now (entries .entry))) (sideOf memory bad (now (words .entry)) (now (bytes .entry)) used (now (lines .entry)) (now
         (pointers .entry)) store) counts size)) ⌝ }
 {
     let numbers = counts_sound(counts, lines_test::dirty_halves(lines));

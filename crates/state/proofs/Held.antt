@@ -34,10 +34,10 @@ state-is : (s t : State) → s .size ≡ t .size → s .counts ≡ t .counts →
 state-is s t a b c d e f g h = rw (a, b, c, d, e, f, g, h)
 
 -- what Dcache, write buffer and memory tell
-pub side-same : (memory₁ store₁ : List ℕ) (s₁ : State) (r₁ : Cp15) (memory store : List ℕ) (s : State) (r : Cp15)
-    → EightPlaces s₁ → EightPlaces s → machineIn memory₁ store₁ s₁ r₁ .side ≡ machineIn memory store s r .side
+pub side-same : (bad memory₁ store₁ : List ℕ) (s₁ : State) (r₁ : Cp15) (memory store : List ℕ) (s : State) (r : Cp15)
+    → EightPlaces s₁ → EightPlaces s → machineIn memory₁ bad store₁ s₁ r₁ .side ≡ machineIn memory bad store s r .side
     → SameSide memory₁ store₁ s₁ memory store s
-side-same memory₁ store₁ s₁ r₁ memory store s r h k e =
+side-same bad memory₁ store₁ s₁ r₁ memory store s r h k e =
     let slots = ap (λ (x : Side). x .backing .buffer .slots) e in
     let places = slots-injective (s₁ .words) (s .words) (bytesOf (s₁ .slots)) (bytesOf (s .slots)) (as-many s₁ h) (as-many s k) slots in
     record {
@@ -50,11 +50,11 @@ side-same memory₁ store₁ s₁ r₁ memory store s r h k e =
       same-used = ap (λ (x : Side). x .backing .buffer .used) e;
     }
 
-pub held-same : (memory₁ store₁ : List ℕ) (s₁ : State) (r₁ : Cp15) (memory store : List ℕ) (s : State) (r : Cp15)
-    → EightPlaces s₁ → EightPlaces s → machineIn memory₁ store₁ s₁ r₁ ≡ machineIn memory store s r
+pub held-same : (bad memory₁ store₁ : List ℕ) (s₁ : State) (r₁ : Cp15) (memory store : List ℕ) (s : State) (r : Cp15)
+    → EightPlaces s₁ → EightPlaces s → machineIn memory₁ bad store₁ s₁ r₁ ≡ machineIn memory bad store s r
     → SameHeld memory₁ store₁ s₁ r₁ memory store s r
-held-same memory₁ store₁ s₁ r₁ memory store s r h k e =
-    let side = side-same memory₁ store₁ s₁ r₁ memory store s r h k (ap (λ (m : Machine). m .side) e) in
+held-same bad memory₁ store₁ s₁ r₁ memory store s r h k e =
+    let side = side-same bad memory₁ store₁ s₁ r₁ memory store s r h k (ap (λ (m : Machine). m .side) e) in
     record {
       same-state = state-is s₁ s
           (ap (λ (m : Machine). m .size) e)

@@ -21,9 +21,9 @@ use Rattle.state.specs.State.{machineIn}
 use Rattle.values.specs.Registers.{zeroCp15}
 use Rattle.machine.specs.Machine.{Machine, fresh}
 
-pub fresh-is : (size : ℕ) (memory store : List ℕ) → machineIn memory store (zeroState size) zeroCp15 ≡ fresh size memory store
+pub fresh-is : (size : ℕ) (memory bad store : List ℕ) → machineIn memory bad store (zeroState size) zeroCp15 ≡ fresh size memory bad store
 unfolding fresh slotsOf
-fresh-is size memory store =
+fresh-is size memory bad store =
     let e : entriesOf (replicate 32 0) ≡ noEntries = map-replicate entryOf 32 0 ∙ ap (λ (x : Entry). replicate 32 x) entry-zero in
     let l : linesOf (replicate 512 0) ≡ noLines = map-replicate lineOf 512 0 ∙ ap (λ (x : Line). replicate 512 x) line-zero in
     rw (e, l)
@@ -34,11 +34,11 @@ module _ (memory store : List ℕ) where
   unfolding startRefusal
   start-by n e = e
 
-  module _ (m : Machine) (n : ℕ) (e : n ≡ startRefusal memory store) where
-    pub start-served : n ≡ 0 → m ≡ fresh (length memory) memory store → startedFrom m n ≡ started memory store
+  module _ (bad : List ℕ) (m : Machine) (n : ℕ) (e : n ≡ startRefusal memory store) where
+    pub start-served : n ≡ 0 → m ≡ fresh (length memory) memory bad store → startedFrom m n ≡ started memory bad store
     unfolding started
     start-served z h = rw (h, ← e, eq-eqb n 0 z)
 
-    pub start-refused : (n ≡ 0 → ⊥) → m ≡ fresh 0 memory store → startedFrom m n ≡ started memory store
+    pub start-refused : (n ≡ 0 → ⊥) → m ≡ fresh 0 memory bad store → startedFrom m n ≡ started memory bad store
     unfolding started
     start-refused z h = rw (h, ← e, ne-eqb n 0 z)

@@ -1,4 +1,4 @@
--- The state that a user holds, by value, and the machine that it makes with the record, memory and cache store.
+-- The state that a user holds, by value, and the machine that it makes with the record, memory, map and cache store.
 use Prim.Native.Nat.{ℕ}
 use mathlib.Core.List.{List, map}
 use Rattle.values.specs.declared.Cp15.{Cp15}
@@ -14,14 +14,14 @@ use Rattle.state.specs.declared.Started.{Started}
 abbrev pub bytesOf : List SlotBytes → List (List ℕ)
 bytesOf slots = map (λ (s : SlotBytes). s .bytes) slots
 
-abbrev pub machineIn : List ℕ → List ℕ → State → Cp15 → Machine
-machineIn memory store s r =
+abbrev pub machineIn : List ℕ → List ℕ → List ℕ → State → Cp15 → Machine
+machineIn memory bad store s r =
     machineOf
-    (lists memory (s .words) (bytesOf (s .slots)) (s .lines) (s .pointers) store)
+    (lists memory bad (s .words) (bytesOf (s .slots)) (s .lines) (s .pointers) store)
     (s .entries)
     (scalarsFrom r (s .counts) (s .used))
     (s .size)
 
--- what a start leaves, with the lent bytes
-abbrev pub startedOf : List ℕ → List ℕ → Started → starts.Started
-startedOf memory store r = starts.startedFrom (machineIn memory store (r .state) (r .cp15)) (r .refusal)
+-- what a start leaves, with the lent bytes and a map
+abbrev pub startedOf : List ℕ → List ℕ → List ℕ → Started → starts.Started
+startedOf memory bad store r = starts.startedFrom (machineIn memory bad store (r .state) (r .cp15)) (r .refusal)

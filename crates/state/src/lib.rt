@@ -1,4 +1,4 @@
-// The state that a user holds, by value: its words and bytes, the tests of refusals 1 to 4, and the start.
+// The state that a user holds, by value: its words and bytes, the tests of refusals 1 to 4 and 16, and the start.
 ghost use mathlib.Core.Path.{_≡_};
 ghost use mathlib.Core.List.{List};
 ghost use Prim.Native.Nat.{ℕ};
@@ -63,7 +63,7 @@ pub fn packed(bytes: [[u8; 16]; 8]) -> [SlotBytes; 8]
 
 // Whether a state and a record are sound, for a memory of n bytes.
 pub fn is_sound(state: State, cp15: Cp15, n: usize) -> bool
-    ensures { λ r. ⌜ ((memory store : List ℕ) → length memory ≡ n → r ≡ sound (machineIn memory store state cp15)) ⌝ }
+    ensures { λ r. ⌜ ((memory bad store : List ℕ) → length memory ≡ n → r ≡ sound (machineIn memory bad store state cp15)) ⌝ }
 {
     let entries = state.entries;
     let lines = state.lines;
@@ -85,9 +85,9 @@ pub fn is_sound(state: State, cp15: Cp15, n: usize) -> bool
     )
 }
 
-// Refusals 1 to 4 of a call, or 0.
-pub fn state_refusal(state: State, cp15: Cp15, memory: &[u8], store: &[u8]) -> u32
-    ensures { λ r. ⌜ r ≡ stateRefusal (machineIn (now (memory .entry)) (now (store .entry)) state cp15) ⌝ }
+// Refusals 1 to 4 and 16 of a call, or 0.
+pub fn state_refusal(state: State, cp15: Cp15, memory: &[u8], bad: &[u8], store: &[u8]) -> u32
+    ensures { λ r. ⌜ r ≡ stateRefusal (machineIn (now (memory .entry)) (now (bad .entry)) (now (store .entry)) state cp15) ⌝ }
 {
     let n = refusals::lent_refusal(memory.len(), store.len());
     if n != 0 {
@@ -95,7 +95,10 @@ pub fn state_refusal(state: State, cp15: Cp15, memory: &[u8], store: &[u8]) -> u
     }
     if is_sound(state, cp15, memory.len()) {
         if state.size == memory.len() {
-            return 0;
+            if refusals::map_fits(memory.len(), bad) {
+                return 0;
+            }
+            return 16;
         }
         return 4;
     }
@@ -111,7 +114,7 @@ pub struct Started {
 
 // A state of zeros but for the memory's length.
 pub fn fresh(size: usize) -> State
-    ensures { λ r. ⌜ ((memory store : List ℕ) → machineIn memory store r zeroCp15 ≡ machines.fresh size memory store) ⌝ }
+    ensures { λ r. ⌜ ((memory bad store : List ℕ) → machineIn memory bad store r zeroCp15 ≡ machines.fresh size memory bad store) ⌝ }
 {
     let counts = values::zero_counts();
     let zero = SlotBytes { bytes: [0u8; 16] };
@@ -134,7 +137,8 @@ pub fn fresh(size: usize) -> State
 
 // The start: a fresh state, or refusal 1 or 2 with a state all zeros. It writes to no lent bytes.
 pub fn start(memory: &[u8], store: &[u8]) -> Started
-    ensures { λ r. ⌜ startedOf (now (memory .entry)) (now (store .entry)) r ≡ starts.started (now (memory .entry)) (now (store .entry)) ⌝ }
+    ensures { λ r.
+        ⌜ ((bad : List ℕ) → startedOf (now (memory .entry)) bad (now (store .entry)) r ≡ starts.started (now (memory .entry)) bad (now (store .entry))) ⌝ }
 {
     let cp15 = values::zero_cp15();
     let refusal = refusals::lent_refusal(memory.len(), store.len());

@@ -1,7 +1,7 @@
 -- What the code asks of the lent lists holds of a machine that refusals 1 to 4 do not hold of, once the call is counted.
 use Prim.Native.Nat.{ℕ, _+_, _*_, _<_, _≤_}
 use native.Mathlib.Omega.{arith}
-use mathlib.Core.Bool.{true}
+use mathlib.Core.Bool.{true, _||_}
 use mathlib.Core.Path.{_≡_, refl, sym, _∙_, ap, subst}
 use mathlib.Core.List.{List, _∷_}
 use lib.ListN.{length, length-map, getD}
@@ -13,7 +13,7 @@ use Rattle.values.specs.declared.Call.{Call}
 use Rattle.values.specs.declared.Line.{Line}
 use Rattle.values.specs.declared.Slot.{Slot}
 use Rattle.values.specs.declared.Answer.the-variants as answer
-use Rattle.values.proofs.Cases.{case}
+use Rattle.values.proofs.Cases.{case, clash}
 use Rattle.values.proofs.Sums.{sum-out}
 use Rattle.walk.specs.Ranges.{InRange}
 use Rattle.tlb.specs.Packing.{entryOf, entriesOf}
@@ -96,21 +96,19 @@ module _ (l : Lists) (es : List ℕ) (s : Scalars) (n : ℕ) (k : Serves (machin
           misses = let h = x .misses in omega arith;
         }
 
-    line-inside : (i : ℕ) → 0 < length (l .memory) → lineOf (getD (l .lines) i 0) .frame * 32 + 32 ≤ length (l .memory)
-    line-inside i h =
-        let x = is in
-        subst (λ (y : Line). y .frame * 32 + 32 ≤ length (l .memory)) (line-at (l .lines) i)
-        (case (getD (linesOf (l .lines)) i emptyLine .valid)
-        (λ v. x .line-inside i v)
-        (λ v.
-        let w = k .formed .memory-lines in
-        subst (λ (y : Line). y .frame * 32 + 32 ≤ length (l .memory)) (sym (x .line-empty i v)) (omega arith)))
-
-    line-held : (i : ℕ) → lineOf (getD (l .lines) i 0) .valid ≡ true → 0 < length (l .memory)
-    line-held i v =
+    line-inside : (i : ℕ) → lineOf (getD (l .lines) i 0) .valid ≡ true → lineOf (getD (l .lines) i 0) .frame * 32 + 32 ≤ length (l .memory)
+    line-inside i v =
         let w : getD (linesOf (l .lines)) i emptyLine .valid ≡ true = ap (λ (y : Line). y .valid) (line-at (l .lines) i) ∙ v in
-        let h = is .line-inside i w in
-        omega arith
+        subst (λ (y : Line). y .frame * 32 + 32 ≤ length (l .memory)) (line-at (l .lines) i) (is .line-inside i w)
+
+    -- a dirty line is valid: an empty place is all zeros
+    line-dirty : (i : ℕ) → (lineOf (getD (l .lines) i 0) .low || lineOf (getD (l .lines) i 0) .high) ≡ true → lineOf (getD (l .lines) i 0) .valid ≡ true
+    line-dirty i d =
+        subst (λ (y : Line). (y .low || y .high) ≡ true → y .valid ≡ true) (line-at (l .lines) i)
+        (λ t.
+        case (getD (linesOf (l .lines)) i emptyLine .valid)
+        (λ v. v)
+        (λ v. clash t (ap (λ (y : Line). y .low || y .high) (is .line-empty i v)))) d
 
     halves-room : (i : ℕ) → s .counts .halves + dirtyHalves (lineOf (getD (l .lines) i 0)) ≤ countLimit
     halves-room i =
@@ -131,7 +129,7 @@ module _ (l : Lists) (es : List ℕ) (s : Scalars) (n : ℕ) (k : Serves (machin
           short = k .formed .memory-short;
           pointers-low = λ i h. let g = x .pointers i in omega arith;
           lines-inside = λ i h. line-inside i;
-          lines-held = λ i h. line-held i;
+          lines-dirty = λ i h. line-dirty i;
           hits = let g = x .hits in omega arith;
           fills = let g = x .fills in omega arith;
           halves = λ i h. halves-room i;
@@ -163,7 +161,7 @@ module _ (l : Lists) (es : List ℕ) (s : Scalars) (n : ℕ) (k : Serves (machin
   unfolding stateRefusal
   no-state-refusal =
       let f = k .formed in
-      sym (not-state-refused here (lengths-fit (length (l .memory)) (f .memory-lines) (f .memory-short)) (f .store-long) (k .is-sound) (k .size))
+      sym (not-state-refused here (lengths-fit (length (l .memory)) (f .memory-lines) (f .memory-short)) (f .store-long) (k .is-sound) (k .size) (k .map-fits))
 
   module _ (c : Call) where
     abbrev later : List (Row ℕ)
@@ -198,6 +196,6 @@ clean-ready s l k =
       lines-long = k .lines-long;
       store-long = k .store-long;
       short = k .short;
-      lines-inside = λ i h v. k .lines-inside i h (k .lines-held i h v);
+      lines-inside = k .lines-inside;
       halves = k .halves;
     }

@@ -18,7 +18,7 @@ use Rattle.step.specs.Code.{Serves}
 use Rattle.values.specs.declared.Answer.{Answer}
 use Rattle.values.specs.declared.Answer.the-variants as answer
 use Rattle.step.specs.Meets.{stateRefusal}
-use Rattle.step.proofs.SoundKept.{sound-kept}
+use Rattle.step.proofs.SoundKept.{sound-kept, map-kept}
 use Rattle.step.proofs.StateRefusals.{state-refused}
 use Rattle.machine.specs.Machine.{Machine, Stepped}
 use Rattle.machine.specs.declared.Scalars.{Scalars}
@@ -92,7 +92,12 @@ module _ (l₀ : Lists) (es₀ calls answers₀ : List ℕ) (s₀ : Scalars) (n 
         (st ∙ ap (λ (x : Call). served (machineOf l es s (length (l .memory))) x) e)
         in
         let sk = sound-kept now (callAt calls i) (g .serves .formed) (g .serves .is-sound) z in
-        let kept : Serves (served now (callAt calls i) .machine) = record { formed = sk .0; is-sound = sk .1; size = sk .3 ∙ g .serves .size ∙ sym (sk .2) } in
+        let kept : Serves (served now (callAt calls i) .machine) = record {
+          formed = sk .0;
+          is-sound = sk .1;
+          size = sk .3 ∙ g .serves .size ∙ sym (sk .2);
+          map-fits = rw (sk .2, map-kept now (callAt calls i)) (g .serves .map-fits);
+        } in
         record {
           low = omega arith;
           same = record {
@@ -156,7 +161,7 @@ module _ (calls answers₀ : List ℕ) (n refusal : ℕ) (r : Holds calls answer
     pub refusing-end : n ≤ i → leaves {S = Unit {0}} tt answers i ≡ refusedAll {S = Unit {0}} refusal tt (callsIn n calls 0) answers₀
     refusing-end = whole-end stays (refuses refusal) calls answers₀ n tt answers tt i (g .whole)
 
--- a machine that one of 1 to 4 holds of refuses each call, and stays as it is
+-- a machine that one of 1 to 4 and 16 holds of refuses each call, and stays as it is
 module _ (m : Machine) (n : ℕ) (e : n ≡ stateRefusal m) (z : n ≡ 0 → ⊥) where
   same-answers : (cs : List Call) → answersOf next answered m cs ≡ answersOf stays (refuses n) tt cs
   unfolding answersOf

@@ -19,6 +19,7 @@ use Rattle.soundness.specs.Soundness.{sound}
 use Rattle.soundness_test.specs.Meaning.{linesOf}
 use Rattle.soundness_test.specs.Formed.{Formed}
 use Rattle.soundness_laws.proofs.ScalarParts.{CountsAre}
+use Rattle.soundness_laws.proofs.MapKept.{bad-access, bad-read, bad-write}
 use Rattle.soundness_laws.proofs.FreshSound.{fresh-counts, fresh-holding}
 use Rattle.soundness_laws.proofs.Reader.{sound-means, sound-of}
 use Rattle.soundness_laws.proofs.Holding.{Holding, Kept, Roomy, holding-formed, holding-sound}
@@ -28,12 +29,12 @@ use Rattle.step.specs.Meets.{startRefusal, stateMeets, refusal}
 use Rattle.step.specs.Start.{started}
 use Rattle.step.specs.Call.{done, served, Numbers}
 use Rattle.refusals.specs.Refusals.{lengthFits, storeFits, row1, row2, row5, callRows, callRefusal}
-use Rattle.machine.specs.Machine.{Machine, memoryOf, withCounts}
+use Rattle.machine.specs.Machine.{Machine, memoryOf, badOf, withCounts}
 
 -- ---- a served start
 
-module _ (memory store : List ℕ) (mb : Bytes memory) (sb : Bytes store) (e : startRefusal memory store ≡ 0) where
-  start-holding : Holding (length memory) (length memory) (started memory store .machine)
+module _ (memory bad store : List ℕ) (mb : Bytes memory) (sb : Bytes store) (e : startRefusal memory store ≡ 0) where
+  start-holding : Holding (length memory) (length memory) (started memory bad store .machine)
   unfolding startRefusal started
   start-holding =
       let n = length memory in
@@ -41,19 +42,19 @@ module _ (memory store : List ℕ) (mb : Bytes memory) (sb : Bytes store) (e : s
       let h2 = row-passed (row2 (length store)) [] (omega arith) (h1 .1) in
       let fits = fitting n (not-false (lengthFits n) (h1 .0)) in
       let long : length store ≡ 16384 = eqb-true (length store) 16384 (not-false (storeFits (length store)) (h2 .0)) in
-      rw e (fresh-holding n memory store (fits .whole) (fits .short) mb long sb)
+      rw e (fresh-holding n memory bad store (fits .whole) (fits .short) mb long sb)
 
-  start-counts : CountsAre (started memory store .machine .counts) (linesOf (started memory store .machine))
+  start-counts : CountsAre (started memory bad store .machine .counts) (linesOf (started memory bad store .machine))
   unfolding started
-  start-counts = fresh-counts (cond (eqb (startRefusal memory store) 0) (length memory) 0) memory store
+  start-counts = fresh-counts (cond (eqb (startRefusal memory store) 0) (length memory) 0) memory bad store
 
-  pub start-sound : Formed (started memory store .machine) × (sound (started memory store .machine) ≡ true)
-      × (length (memoryOf (started memory store .machine)) ≡ length memory) × (started memory store .machine .size ≡ length memory)
+  pub start-sound : Formed (started memory bad store .machine) × (sound (started memory bad store .machine) ≡ true)
+      × (length (memoryOf (started memory bad store .machine)) ≡ length memory) × (started memory bad store .machine .size ≡ length memory)
   start-sound =
       let n = length memory in
       let h = start-holding in (
-        holding-formed n n (started memory store .machine) h,
-        holding-sound n n (started memory store .machine) h start-counts,
+        holding-formed n n (started memory bad store .machine) h,
+        holding-sound n n (started memory bad store .machine) h start-counts,
         h .side .backing .memory-long,
         h .size,
       )
@@ -89,3 +90,14 @@ module _ (m : Machine) (c : Call) (f : Formed m) (s : sound m ≡ true) (n : Num
   sound-kept =
       let k = served-kept in
       (k .formed, sound-of (served m c .machine) (k .formed .lines-long) (k .sound), k .memory, k .size)
+
+-- "unchanged through a run"
+pub map-kept : (m : Machine) (c : Call) → badOf (served m c .machine) ≡ badOf m
+unfolding served
+map-kept m c =
+    case (eqb (refusal m c) 0) (λ t. rw t (by (withCounts m (counted (m .counts))) c)) (λ t. rw t)
+  where
+    by : (x : Machine) (d : Call) → badOf (done x d .machine) ≡ badOf x
+    by x (calls.Access a) = bad-access x a
+    by x (Read t) = bad-read x t
+    by x (Write t v) = bad-write x t v

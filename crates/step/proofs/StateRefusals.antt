@@ -14,9 +14,9 @@ use Rattle.values.specs.declared.Call.the-variants.{Read, Write}
 use Rattle.values.specs.declared.Call.the-variants as calls
 use Rattle.values.specs.declared.Answer.the-variants as answer
 use Rattle.values.proofs.Cases.{and-left, and-right, and-both}
-use Rattle.refusals.specs.Refusals.{refusalIn, lengthFits, storeFits, row1, row2, row3, row4, row5, callRows}
+use Rattle.refusals.specs.Refusals.{refusalIn, lengthFits, storeFits, mapFits, row1, row2, row3, row4, row5, row16, callRows}
 use Rattle.refusals.proofs.Rows.{Numbered, row-passed, rows-met}
-use Rattle.machine.specs.Machine.{Machine, memoryOf, storeOf, steppedFrom}
+use Rattle.machine.specs.Machine.{Machine, memoryOf, badOf, storeOf, steppedFrom}
 use Rattle.soundness.specs.Soundness.{sound}
 use Rattle.step.specs.Meets.{stateMeets, stateRefusal, refusal}
 use Rattle.step.specs.Call.{served}
@@ -50,8 +50,8 @@ module _ (m : Machine) where
   pub refused-lent : (n : ℕ) → n ≡ refusalIn (row1 (length (memoryOf m)) ∷ row2 (length (storeOf m)) ∷ []) → (n ≡ 0 → ⊥) → n ≡ stateRefusal m
   unfolding stateRefusal
   refused-lent n e z =
-      e ∙ sym (rows-met (row1 (length (memoryOf m)) ∷ row2 (length (storeOf m)) ∷ []) (row3 (sound m) ∷ row4 (m .size) (length (memoryOf m)) ∷ [])
-      (λ h. z (e ∙ h)))
+      e ∙ sym (rows-met (row1 (length (memoryOf m)) ∷ row2 (length (storeOf m)) ∷ [])
+      (row3 (sound m) ∷ row4 (m .size) (length (memoryOf m)) ∷ row16 (length (memoryOf m)) (badOf m) ∷ []) (λ h. z (e ∙ h)))
 
   module _ (e : lengthFits (length (memoryOf m)) ≡ true) (g : length (storeOf m) ≡ 16384) where
     pub refused-unsound : sound m ≡ false → 3 ≡ stateRefusal m
@@ -63,9 +63,14 @@ module _ (m : Machine) where
       unfolding stateRefusal firstMet
       refused-size h = rw (e, eq-eqb (length (storeOf m)) 16384 g, s, ne-eqb (m .size) (length (memoryOf m)) h)
 
-      pub not-state-refused : m .size ≡ length (memoryOf m) → 0 ≡ stateRefusal m
-      unfolding stateRefusal firstMet
-      not-state-refused h = rw (e, eq-eqb (length (storeOf m)) 16384 g, s, eq-eqb (m .size) (length (memoryOf m)) h)
+      module _ (h : m .size ≡ length (memoryOf m)) where
+        pub refused-map : mapFits (length (memoryOf m)) (badOf m) ≡ false → 16 ≡ stateRefusal m
+        unfolding stateRefusal firstMet
+        refused-map f = rw (e, eq-eqb (length (storeOf m)) 16384 g, s, eq-eqb (m .size) (length (memoryOf m)) h, f)
+
+        pub not-state-refused : mapFits (length (memoryOf m)) (badOf m) ≡ true → 0 ≡ stateRefusal m
+        unfolding stateRefusal firstMet
+        not-state-refused f = rw (e, eq-eqb (length (storeOf m)) 16384 g, s, eq-eqb (m .size) (length (memoryOf m)) h, f)
 
 -- ---- what no state refusal says
 
@@ -75,15 +80,18 @@ pub record Accepts (m : Machine) : Type 0 where
   pub store : length (storeOf m) ≡ 16384
   pub is-sound : sound m ≡ true
   pub size : m .size ≡ length (memoryOf m)
+  pub map-fits : mapFits (length (memoryOf m)) (badOf m) ≡ true
 
 pub accepts : (m : Machine) → stateRefusal m ≡ 0 → Accepts m
 unfolding stateRefusal
 accepts m h =
     let n = length (memoryOf m) in
-    let h1 = row-passed (row1 n) (row2 (length (storeOf m)) ∷ row3 (sound m) ∷ row4 (m .size) n ∷ []) (omega arith) h in
-    let h2 = row-passed (row2 (length (storeOf m))) (row3 (sound m) ∷ row4 (m .size) n ∷ []) (omega arith) (h1 .1) in
-    let h3 = row-passed (row3 (sound m)) (row4 (m .size) n ∷ []) (omega arith) (h2 .1) in
-    let h4 = row-passed (row4 (m .size) n) [] (omega arith) (h3 .1) in
+    let last = row16 n (badOf m) ∷ [] in
+    let h1 = row-passed (row1 n) (row2 (length (storeOf m)) ∷ row3 (sound m) ∷ row4 (m .size) n ∷ last) (omega arith) h in
+    let h2 = row-passed (row2 (length (storeOf m))) (row3 (sound m) ∷ row4 (m .size) n ∷ last) (omega arith) (h1 .1) in
+    let h3 = row-passed (row3 (sound m)) (row4 (m .size) n ∷ last) (omega arith) (h2 .1) in
+    let h4 = row-passed (row4 (m .size) n) last (omega arith) (h3 .1) in
+    let h5 = row-passed (row16 n (badOf m)) [] (omega arith) (h4 .1) in
     let fits = fitting n (not-false (lengthFits n) (h1 .0)) in
     record {
       whole = fits .whole;
@@ -91,6 +99,7 @@ accepts m h =
       store = eqb-true (length (storeOf m)) 16384 (not-false (storeFits (length (storeOf m))) (h2 .0));
       is-sound = not-false (sound m) (h3 .0);
       size = eqb-true (m .size) n (not-false (eqb (m .size) n) (h4 .0));
+      map-fits = not-false (mapFits n (badOf m)) (h5 .0);
     }
 
 -- none of them gives 0
@@ -105,7 +114,7 @@ refusal-rows m (calls.Access a) = refl
 refusal-rows m (Read t) = refl
 refusal-rows m (Write t v) = refl
 
--- a call on a machine that one of 1 to 4 holds of is refused by that number
+-- a call on a machine that one of 1 to 4 and 16 holds of is refused by that number
 pub state-refused : (m : Machine) (c : Call) (n : ℕ) → n ≡ stateRefusal m → (n ≡ 0 → ⊥) → served m c ≡ steppedFrom m (answer.Refused n)
 unfolding served stateRefusal
 state-refused m c n e z =

@@ -29,8 +29,8 @@ final = finalOf next answered
 abbrev pub leftBy : Machine → List Call → List ℕ → Left Machine
 leftBy = leftOf next answered
 
--- a run over a lent list of calls, five numbers each: as many calls as both lists hold. The fold of `served`: a machine that 1 to 4 hold of refuses
--- each of its calls.
+-- a run over a lent list of calls, five numbers each: as many calls as both lists hold. The fold of `served`: a machine that 1 to 4 or 16
+-- hold of refuses each of its calls.
 unfoldable pub run : Machine → List ℕ → List ℕ → Left Machine
 run m list answers = leftBy m (callsIn (min (length list / 5) (length answers)) list 0) answers
 

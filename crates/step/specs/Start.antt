@@ -16,7 +16,8 @@ abbrev pub startedFrom : Machine → ℕ → Started
 startedFrom m n = record { machine = m; refusal = n }
 
 -- "A start call makes a fresh state". "Each returns its number with value 0 (the start a state all zeros) and changes nothing."
-unfoldable pub started : List ℕ → List ℕ → Started
-started memory store =
+-- The start is lent no map: `bad` is any that later calls are lent.
+unfoldable pub started : List ℕ → List ℕ → List ℕ → Started
+started memory bad store =
     let n = startRefusal memory store in
-    startedFrom (fresh (cond (eqb n 0) (length memory) 0) memory store) n
+    startedFrom (fresh (cond (eqb n 0) (length memory) 0) memory bad store) n

@@ -1,4 +1,4 @@
-// One call, and a list of calls, on lent lists that refusals 1 to 4 do not hold of.
+// One call, and a list of calls, on lent lists that refusals 1 to 4 and 16 do not hold of.
 ghost use mathlib.Core.Path.{_≡_};
 ghost use Prim.Native.Nat.{ℕ, _<_};
 ghost use lib.ListN.{length};
@@ -19,6 +19,7 @@ use values::Call;
 fn done(
     table: &[u8; 256],
     memory: &mut [u8],
+    bad: &[u8],
     words: &mut [u64],
     bytes: &mut [[u8; 16]; 8],
     lines: &mut [u64],
@@ -29,15 +30,17 @@ fn done(
     c: Call,
 ) -> Outcome
     requires { ⌜ (now table ≡ rightsTable) × TlbReady (now entries) s
-        × SideReady (lists (now memory) (now words) (now bytes) (now lines) (now pointers) (now store)) s
+        × SideReady (lists (now memory) (now bad) (now words) (now bytes) (now lines) (now pointers) (now store)) s
         × (s .cp15 .registers .control < 0x2000) × (refused.callRefusal c ≡ 0) ⌝ }
     ensures { λ r.
         ⌜ ((size : ℕ)
-        → steppedOf (lists (now (memory .exit)) (now (words .exit)) (now (bytes .exit)) (now (lines .exit)) (now (pointers .exit)) (now (store .exit)))
+        → steppedOf (lists (now (memory .exit)) (now (bad .entry)) (now (words .exit)) (now (bytes .exit)) (now (lines .exit)) (now (pointers .exit))
+        (now (store .exit)))
         (now (entries .exit)) size r
         ≡ spec.done
         (machineOf
-        (lists (now (memory .entry)) (now (words .entry)) (now (bytes .entry)) (now (lines .entry)) (now (pointers .entry)) (now (store .entry)))
+        (lists (now (memory .entry)) (now (bad .entry)) (now (words .entry)) (now (bytes .entry)) (now (lines .entry)) (now (pointers .entry))
+        (now (store .entry)))
         (now (entries .entry)) s size) c)
         × (length (now (bytes .exit)) ≡ 8) ⌝ }
 {
@@ -45,6 +48,7 @@ fn done(
         Call::Access(a) => access::serve(
             table,
             memory,
+            bad,
             words,
             bytes,
             lines,
@@ -55,7 +59,7 @@ fn done(
             a,
         ),
         Call::Read(t) => cp15::read(s, t),
-        Call::Write(t, v) => cp15::write(memory, words, bytes, lines, store, entries, s, t, v),
+        Call::Write(t, v) => cp15::write(memory, bad, words, bytes, lines, store, entries, s, t, v),
     }
 }
 
@@ -70,10 +74,11 @@ fn refusal(c: Call) -> u32
     }
 }
 
-// A call on a machine that refusals 1 to 4 do not hold of.
+// A call on a machine that refusals 1 to 4 and 16 do not hold of.
 pub fn step(
     table: &[u8; 256],
     memory: &mut [u8],
+    bad: &[u8],
     words: &mut [u64],
     bytes: &mut [[u8; 16]; 8],
     lines: &mut [u64],
@@ -84,13 +89,16 @@ pub fn step(
     c: Call,
 ) -> Outcome
     requires { ⌜ (now table ≡ rightsTable) × (length (now words) ≡ 8) × (length (now bytes) ≡ 8)
-        × Serves (machineOf (lists (now memory) (now words) (now bytes) (now lines) (now pointers) (now store)) (now entries) s (length (now memory))) ⌝ }
+        × Serves (machineOf (lists (now memory) (now bad) (now words) (now bytes) (now lines) (now pointers) (now store)) (now entries) s
+        (length (now memory))) ⌝ }
     ensures { λ r.
-        ⌜ (steppedOf (lists (now (memory .exit)) (now (words .exit)) (now (bytes .exit)) (now (lines .exit)) (now (pointers .exit)) (now (store .exit)))
+        ⌜ (steppedOf (lists (now (memory .exit)) (now (bad .entry)) (now (words .exit)) (now (bytes .exit)) (now (lines .exit)) (now (pointers .exit))
+        (now (store .exit)))
         (now (entries .exit)) (length (now (memory .entry))) r
         ≡ spec.served
         (machineOf
-        (lists (now (memory .entry)) (now (words .entry)) (now (bytes .entry)) (now (lines .entry)) (now (pointers .entry)) (now (store .entry)))
+        (lists (now (memory .entry)) (now (bad .entry)) (now (words .entry)) (now (bytes .entry)) (now (lines .entry)) (now (pointers .entry))
+        (now (store .entry)))
         (now (entries .entry)) s (length (now (memory .entry)))) c)
         × (length (now (bytes .exit)) ≡ 8) ⌝ }
 {
@@ -110,6 +118,7 @@ pub fn step(
     done(
         table,
         memory,
+        bad,
         words,
         bytes,
         lines,
@@ -127,10 +136,11 @@ pub struct Folded {
     pub made: usize,
 }
 
-// The first n calls of a list, on a machine that refusals 1 to 4 do not hold of: none of them holds of a machine that a call leaves.
+// The first n calls of a list, on a machine that refusals 1 to 4 and 16 do not hold of: none of them holds of a machine that a call leaves.
 pub fn run_calls(
     table: &[u8; 256],
     memory: &mut [u8],
+    bad: &[u8],
     words: &mut [u64],
     bytes: &mut [[u8; 16]; 8],
     lines: &mut [u64],
@@ -143,16 +153,18 @@ pub fn run_calls(
     n: usize,
 ) -> Folded
     requires { ⌜ (now table ≡ rightsTable) × (length (now words) ≡ 8) × (length (now bytes) ≡ 8) × Holds (now calls) (now answers) n
-        × Serves (machineOf (lists (now memory) (now words) (now bytes) (now lines) (now pointers) (now store))
+        × Serves (machineOf (lists (now memory) (now bad) (now words) (now bytes) (now lines) (now pointers) (now store))
         (now entries) first (length (now memory))) ⌝ }
     ensures { λ r.
         ⌜ leaves
-        (machineOf (lists (now (memory .exit)) (now (words .exit)) (now (bytes .exit)) (now (lines .exit)) (now (pointers .exit)) (now (store .exit)))
+        (machineOf (lists (now (memory .exit)) (now (bad .entry)) (now (words .exit)) (now (bytes .exit)) (now (lines .exit)) (now (pointers .exit))
+        (now (store .exit)))
         (now (entries .exit)) (r .scalars) (length (now (memory .entry))))
         (now (answers .exit)) (r .made)
         ≡ runs.leftBy
         (machineOf
-        (lists (now (memory .entry)) (now (words .entry)) (now (bytes .entry)) (now (lines .entry)) (now (pointers .entry)) (now (store .entry)))
+        (lists (now (memory .entry)) (now (bad .entry)) (now (words .entry)) (now (bytes .entry)) (now (lines .entry)) (now (pointers .entry))
+        (now (store .entry)))
         (now (entries .entry)) first (length (now (memory .entry))))
         (callsIn n (now (calls .entry)) 0) (now (answers .entry)) ⌝ }
 {
@@ -169,6 +181,7 @@ pub fn run_calls(
         let o = step(
             table,
             memory,
+            bad,
             words,
             bytes,
             lines,

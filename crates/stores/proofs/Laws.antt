@@ -1,17 +1,19 @@
 -- What the code of a store leaves is what the definition says, by the facts that its callees give.
-use Prim.Native.Nat.{ℕ}
+use Prim.Native.Nat.{ℕ, _+_, _*_, _/_}
 use native.Mathlib.Omega.{arith}
-use mathlib.Core.Bool.{true, false}
+use mathlib.Core.Bool.{true, false, cond}
 use mathlib.Core.Path.{_≡_, ap}
 use mathlib.Core.List.{List}
+use lib.ListN.{length}
+use borrow.Author.Tests.{ltb-false}
 use Rattle.values.specs.Counts.{hit}
 use Rattle.values.specs.declared.Access.{Access}
 use Rattle.values.specs.declared.VirtualAddress.{VirtualAddress}
 use Rattle.values.specs.declared.Answer.the-variants as answer
 use Rattle.values.specs.declared.Search.the-variants.{At, Nothing}
+use Rattle.values.proofs.Cases.{case}
 use Rattle.words.specs.Words.{stored}
-use Rattle.bus.specs.Physical.{physical, aborts}
-use Rattle.bus.proofs.Laws.{answers}
+use Rattle.bus.specs.Physical.{physical, outside, aborts}
 use Rattle.buffer.specs.Buffer.{Backing, withMemory, drained, buffered}
 use Rattle.buffer.specs.Packing.{backingOf}
 use Rattle.buffer.specs.Ranges.{Left, Stores}
@@ -39,7 +41,7 @@ module _ (es : List ℕ) (s : Scalars) (n : ℕ) (a : Access) (v : ℕ) (l : Lis
   pub store-hit-left : (ls st : List ℕ) (i : ℕ) (va : VirtualAddress) (r : Scalars) → va ≡ cleared a
       → dcacheFrom (linesOf ls) (l .pointers) st ≡ hitStore (dcacheFrom (linesOf (l .lines)) (l .pointers) (l .store)) i va (a .width) v
       → r ≡ withCounts s (hit (s .counts)) → o ≡ storedBy r
-      → steppedOf (lists (l .memory) (l .words) (l .bytes) ls (l .pointers) st) es n o ≡ storeHit (machineOf l es s n) a v i
+      → steppedOf (lists (l .memory) (l .bad) (l .words) (l .bytes) ls (l .pointers) st) es n o ≡ storeHit (machineOf l es s n) a v i
   unfolding storeHit
   store-hit-left ls st i va r f e g h = rw (h, g) (ap made (rw f at e))
     where
@@ -53,24 +55,30 @@ module _ (es : List ℕ) (s : Scalars) (n : ℕ) (a : Access) (v : ℕ) (l : Lis
 
   module _ (p : Place) (r : Scalars) where
     pub direct-left : (m k ws : List ℕ) (bs : List (List ℕ)) → r ≡ withUsed s 0
-        → Left k ws bs 0 (drained (backingOf (l .memory) (l .words) (l .bytes) (s .used))) → m ≡ stored (a .width) k (p .address .0) v → o ≡ storedBy r
-        → steppedOf (lists m ws bs (l .lines) (l .pointers) (l .store)) es n o ≡ storeDirect (machineOf l es s n) a v p
+        → Left k (l .bad) ws bs 0 (drained (backingOf (l .memory) (l .bad) (l .words) (l .bytes) (s .used))) → m ≡ stored (a .width) k (p .address .0) v
+        → o ≡ storedBy r
+        → steppedOf (lists m (l .bad) ws bs (l .lines) (l .pointers) (l .store)) es n o ≡ storeDirect (machineOf l es s n) a v p
     unfolding storeDirect
     direct-left m k ws bs g e f h =
         rw (h, g, f) (ap (λ (b : Backing). made-by (withMemory b (stored (a .width) (b .memory) (p .address .0) v))) (e .same))
 
-    pub buffered-left : (m ws : List ℕ) (bs : List (List ℕ)) (used : ℕ) → aborts (physical (l .memory)) (p .address) ≡ false
-        → Left m ws bs used (buffered (backingOf (l .memory) (l .words) (l .bytes) (s .used)) (p .address) (a .width) v)
+    pub buffered-left : (m ws : List ℕ) (bs : List (List ℕ)) (used : ℕ)
+        → Left m (l .bad) ws bs used
+        (cond (outside (physical (l .memory) (l .bad)) (p .address)) (backingOf (l .memory) (l .bad) (l .words) (l .bytes) (s .used))
+        (buffered (backingOf (l .memory) (l .bad) (l .words) (l .bytes) (s .used)) (p .address) (a .width) v))
         → r ≡ withUsed s used → o ≡ storedBy r
-        → steppedOf (lists m ws bs (l .lines) (l .pointers) (l .store)) es n o ≡ storeBuffered (machineOf l es s n) a v p
+        → steppedOf (lists m (l .bad) ws bs (l .lines) (l .pointers) (l .store)) es n o ≡ storeBuffered (machineOf l es s n) a v p
     unfolding storeBuffered
-    buffered-left m ws bs used i e g h = rw (h, g, i) (ap made-by (e .same))
+    buffered-left m ws bs used e g h =
+        case (outside (physical (l .memory) (l .bad)) (p .address))
+        (λ t. rw (h, g, t) (ap made-by (rw t at (e .same))))
+        (λ t. rw (h, g, t) (ap made-by (rw t at (e .same))))
 
--- what a buffered store asks holds where its word answers
-pub stores-in : (memory words : List ℕ) (bytes : List (List ℕ)) (used : ℕ) (a : Access) (p : Place) → MissReady memory words bytes used a p
-    → aborts (physical memory) (p .address) ≡ false → Stores memory (p .address) (a .width)
-stores-in memory words bytes used a p k h =
-    let i = answers (physical memory) (p .address) h in
+-- what a buffered store asks holds where its word lies inside memory
+pub stores-in : (memory bad words : List ℕ) (bytes : List (List ℕ)) (used : ℕ) (a : Access) (p : Place) → MissReady memory words bytes used a p
+    → outside (physical memory bad) (p .address) ≡ false → Stores memory (p .address) (a .width)
+stores-in memory bad words bytes used a p k h =
+    let i = ltb-false (length memory) (p .address .0 / 4 * 4 + 4) h in
     let m = k .whole in
     record { width-is = k .width; in-block = in-block a (p .address .0) (k .width) (k .place .within); inside = omega arith }
 
@@ -81,18 +89,14 @@ module _ (m : Machine) (a : Access) (v : ℕ) (p : Place) where
   unfolding storeMiss
   miss-buffered f = rw f
 
-  pub miss-direct : aborts (physicalOf m) (p .address) ≡ false → buffers (m .cp15 .registers) p ≡ false → storeMiss m a v p ≡ storeDirect m a v p
-  unfolding storeMiss
-  miss-direct h f = rw (f, h)
-
-  module _ (h : aborts (physicalOf m) (p .address) ≡ true) where
-    pub miss-dropped : buffers (m .cp15 .registers) p ≡ true → storeMiss m a v p ≡ answersZero m
-    unfolding storeMiss storeBuffered
-    miss-dropped f = rw (f, h)
-
-    pub miss-faults : buffers (m .cp15 .registers) p ≡ false → storeMiss m a v p ≡ faulted m (otherStatus p) (p .domain) (a .address)
+  module _ (f : buffers (m .cp15 .registers) p ≡ false) where
+    pub miss-direct : aborts (physicalOf m) (p .address) ≡ false → storeMiss m a v p ≡ storeDirect m a v p
     unfolding storeMiss
-    miss-faults f = rw (f, h)
+    miss-direct h = rw (f, h)
+
+    pub miss-faults : aborts (physicalOf m) (p .address) ≡ true → storeMiss m a v p ≡ faulted m (otherStatus p) (p .domain) (a .address)
+    unfolding storeMiss
+    miss-faults h = rw (f, h)
 
   pub store-found : (va : VirtualAddress) (i : ℕ) → va ≡ cleared a → find (m .side .cache .lines) va ≡ At i → store m a v p ≡ storeHit m a v i
   unfolding store

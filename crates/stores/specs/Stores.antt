@@ -6,7 +6,7 @@ use Rattle.values.specs.declared.Access.{Access}
 use Rattle.values.specs.declared.Search.{Search}
 use Rattle.values.specs.declared.Search.the-variants.{At, Nothing}
 use Rattle.words.specs.Words.{stored}
-use Rattle.bus.specs.Physical.{aborts}
+use Rattle.bus.specs.Physical.{outside, aborts}
 use Rattle.buffer.specs.Buffer.{withMemory, drained, buffered}
 use Rattle.cache.specs.Dcache.{find, hitStore}
 use Rattle.translation.specs.Alignment.{cleared}
@@ -19,10 +19,10 @@ use Rattle.reach.specs.Reach.{faulted}
 unfoldable pub storeHit : Machine → Access → ℕ → ℕ → Stepped
 storeHit m a v i = answersZero (withCounts (withCache m (hitStore (m .side .cache) i (cleared a) (a .width) v)) (hit (m .counts)))
 
--- "A store that misses is buffered ...; outside memory its bytes are dropped without a fault."
+-- "A store that misses is buffered ...; outside memory its bytes are dropped without a fault." A bad word's are dropped when their entry leaves.
 unfoldable pub storeBuffered : Machine → Access → ℕ → Place → Stepped
 storeBuffered m a v p =
-    answersZero (cond (aborts (physicalOf m) (p .address)) m (withBacking m (buffered (m .side .backing) (p .address) (a .width) v)))
+    answersZero (cond (outside (physicalOf m) (p .address)) m (withBacking m (buffered (m .side .backing) (p .address) (a .width) v)))
 
 -- "Any other missing store drains the buffer, then writes."
 unfoldable pub storeDirect : Machine → Access → ℕ → Place → Stepped

@@ -1,13 +1,16 @@
 // Stores whose alignment, translation and rights pass: into the Dcache, the write buffer or memory.
 ghost use mathlib.Core.Path.{_≡_};
-ghost use mathlib.Core.Bool.{true, false};
+ghost use mathlib.Core.Bool.{true, false, cond};
 ghost use mathlib.Core.List.{List};
 ghost use Prim.Native.Nat.{ℕ, _<_};
 ghost use lib.ListN.{length};
 ghost use Rattle.values.specs.Counts.{countLimit};
 ghost use Rattle.words.specs.Words.{isWidth};
-ghost use Rattle.bus.specs.Physical.{physical, aborts};
-ghost use Rattle.machine.specs.Lists.{Lists, lists, machineOf, steppedOf, LeavesBelow};
+ghost use Rattle.bus.specs.Physical.{physical, outside, aborts};
+ghost use Rattle.buffer.specs.Buffer.{buffered};
+ghost use Rattle.buffer.specs.Packing.{backingOf};
+ghost use Rattle.buffer.specs.Ranges.{Left};
+ghost use Rattle.machine.specs.Lists.{lists, machineOf, steppedOf, LeavesBelow};
 ghost use Rattle.machine.specs.Machine.{Machine};
 ghost use Rattle.reach.specs.Code.{MissReady};
 ghost use Rattle.machine.specs.Scalars.{outcomeFrom};
@@ -40,9 +43,9 @@ pub fn store_hit(
     requires { ⌜ (length (now lines) ≡ 512) × (length (now store) ≡ 16384) × (i < 512) × (isWidth (a .width) ≡ true)
         × (s .counts .hits < countLimit) ⌝ }
     ensures { λ r.
-        ⌜ ((memory words : List ℕ) (bytes : List (List ℕ)) (pointers entries : List ℕ) (size : ℕ)
-        → steppedOf (lists memory words bytes (now (lines .exit)) pointers (now (store .exit))) entries size r
-        ≡ spec.storeHit (machineOf (lists memory words bytes (now (lines .entry)) pointers (now (store .entry))) entries s size) a v i) ⌝ }
+        ⌜ ((memory bad words : List ℕ) (bytes : List (List ℕ)) (pointers entries : List ℕ) (size : ℕ)
+        → steppedOf (lists memory bad words bytes (now (lines .exit)) pointers (now (store .exit))) entries size r
+        ≡ spec.storeHit (machineOf (lists memory bad words bytes (now (lines .entry)) pointers (now (store .entry))) entries s size) a v i) ⌝ }
 {
     let va = translation::cleared(a);
     cache::store(lines, store, i, va, a.width, v);
@@ -52,6 +55,7 @@ pub fn store_hit(
 // A store that drains the buffer and goes to memory.
 fn store_direct(
     memory: &mut [u8],
+    bad: &[u8],
     words: &mut [u64],
     bytes: &mut [[u8; 16]; 8],
     s: Scalars,
@@ -59,54 +63,46 @@ fn store_direct(
     v: u32,
     p: Place,
 ) -> Outcome
-    requires { ⌜ MissReady (now memory) (now words) (now bytes) (s .used) a p × (aborts (physical (now memory)) (p .address) ≡ false) ⌝ }
+    requires { ⌜ MissReady (now memory) (now words) (now bytes) (s .used) a p × (aborts (physical (now memory) (now bad)) (p .address) ≡ false) ⌝ }
     ensures { λ r.
-        ⌜ LeavesBelow (now (memory .entry)) (now (words .entry)) (now (bytes .entry)) s (now (memory .exit)) (now (words .exit)) (now (bytes .exit)) r
+        ⌜ LeavesBelow (now (memory .entry)) (now (bad .entry)) (now (words .entry)) (now (bytes .entry)) s (now (memory .exit)) (now (words .exit))
+        (now (bytes .exit)) r
         (λ (m : Machine). spec.storeDirect m a v p) ⌝ }
 {
     let pa = p.address;
-    let drained = machine::drain(memory, words, bytes, s);
+    let drained = machine::drain(memory, bad, words, bytes, s);
     words::store(memory, pa.0 as usize, a.width, v);
     stored(drained)
 }
 
-// A store inside memory that is buffered.
-fn store_buffered(
+// The bytes of a store go to the buffer, or are dropped outside memory. It answers the number of entries.
+fn buffer_or_drop(
     memory: &mut [u8],
+    bad: &[u8],
     words: &mut [u64],
     bytes: &mut [[u8; 16]; 8],
-    s: Scalars,
+    used: usize,
     a: Access,
     v: u32,
     p: Place,
-) -> Outcome
-    requires { ⌜ MissReady (now memory) (now words) (now bytes) (s .used) a p × (aborts (physical (now memory)) (p .address) ≡ false) ⌝ }
+) -> usize
+    requires { ⌜ MissReady (now memory) (now words) (now bytes) used a p ⌝ }
     ensures { λ r.
-        ⌜ LeavesBelow (now (memory .entry)) (now (words .entry)) (now (bytes .entry)) s (now (memory .exit)) (now (words .exit)) (now (bytes .exit)) r
-        (λ (m : Machine). spec.storeBuffered m a v p) ⌝ }
+        ⌜ Left (now (memory .exit)) (now (bad .entry)) (now (words .exit)) (now (bytes .exit)) r
+        (cond (outside (physical (now (memory .entry)) (now (bad .entry))) (p .address))
+        (backingOf (now (memory .entry)) (now (bad .entry)) (now (words .entry)) (now (bytes .entry)) used)
+        (buffered (backingOf (now (memory .entry)) (now (bad .entry)) (now (words .entry)) (now (bytes .entry)) used) (p .address) (a .width) v)) ⌝ }
 {
-    let used = joins::store(memory, words, bytes, s.used, p.address, a.width, v);
-    stored(machine::with_used(s, used))
-}
-
-// A store whose word aborts: its bytes are dropped, or it faults.
-fn store_aborted(s: Scalars, a: Access, p: Place) -> Outcome
-    requires { ⌜ p .domain < 16 ⌝ }
-    ensures { λ r.
-        ⌜ ((l : Lists) (entries : List ℕ) (size v : ℕ) → aborts (physical (l .memory)) (p .address) ≡ true
-        → steppedOf l entries size r ≡ spec.storeMiss (machineOf l entries s size) a v p) ⌝ }
-{
-    let r = s.cp15.registers;
-    let address = a.address;
-    if translation::buffers(r, p) {
-        return stored(s);
+    if bus::outside(memory, p.address) {
+        return used;
     }
-    reach::faulted(s, translation::other_status(p), p.domain, address)
+    joins::store(memory, bad, words, bytes, used, p.address, a.width, v)
 }
 
-// A store that misses.
-pub fn store_miss(
+// A store that is buffered, or dropped outside memory.
+fn store_buffered(
     memory: &mut [u8],
+    bad: &[u8],
     words: &mut [u64],
     bytes: &mut [[u8; 16]; 8],
     s: Scalars,
@@ -116,15 +112,38 @@ pub fn store_miss(
 ) -> Outcome
     requires { ⌜ MissReady (now memory) (now words) (now bytes) (s .used) a p ⌝ }
     ensures { λ r.
-        ⌜ LeavesBelow (now (memory .entry)) (now (words .entry)) (now (bytes .entry)) s (now (memory .exit)) (now (words .exit)) (now (bytes .exit)) r
+        ⌜ LeavesBelow (now (memory .entry)) (now (bad .entry)) (now (words .entry)) (now (bytes .entry)) s (now (memory .exit)) (now (words .exit))
+        (now (bytes .exit)) r
+        (λ (m : Machine). spec.storeBuffered m a v p) ⌝ }
+{
+    let used = buffer_or_drop(memory, bad, words, bytes, s.used, a, v, p);
+    stored(machine::with_used(s, used))
+}
+
+// A store that misses.
+pub fn store_miss(
+    memory: &mut [u8],
+    bad: &[u8],
+    words: &mut [u64],
+    bytes: &mut [[u8; 16]; 8],
+    s: Scalars,
+    a: Access,
+    v: u32,
+    p: Place,
+) -> Outcome
+    requires { ⌜ MissReady (now memory) (now words) (now bytes) (s .used) a p ⌝ }
+    ensures { λ r.
+        ⌜ LeavesBelow (now (memory .entry)) (now (bad .entry)) (now (words .entry)) (now (bytes .entry)) s (now (memory .exit)) (now (words .exit))
+        (now (bytes .exit)) r
         (λ (m : Machine). spec.storeMiss m a v p) ⌝ }
 {
     let r = s.cp15.registers;
-    if bus::aborts(memory, p.address) {
-        return store_aborted(s, a, p);
-    }
     if translation::buffers(r, p) {
-        return store_buffered(memory, words, bytes, s, a, v, p);
+        return store_buffered(memory, bad, words, bytes, s, a, v, p);
     }
-    store_direct(memory, words, bytes, s, a, v, p)
+    if bus::aborts(memory, bad, p.address) {
+        let address = a.address;
+        return reach::faulted(s, translation::other_status(p), p.domain, address);
+    }
+    store_direct(memory, bad, words, bytes, s, a, v, p)
 }

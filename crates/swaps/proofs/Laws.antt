@@ -32,9 +32,9 @@ use Rattle.swaps.specs.Code.{storeOrSwap}
 -- memory drained, read, then written
 pub direct-left : (es : List ℕ) (s : Scalars) (n : ℕ) (a : Access) (v : ℕ) (l : Lists) (p : Place) (r : Scalars) (x : Answer) (old : ℕ)
     (m k ws : List ℕ) (bs : List (List ℕ)) → r ≡ withUsed s 0
-    → Left k ws bs 0 (drained (backingOf (l .memory) (l .words) (l .bytes) (s .used))) → old ≡ valueAt (a .width) k (p .address .0)
+    → Left k (l .bad) ws bs 0 (drained (backingOf (l .memory) (l .bad) (l .words) (l .bytes) (s .used))) → old ≡ valueAt (a .width) k (p .address .0)
     → m ≡ stored (a .width) k (p .address .0) v → x ≡ loadAnswer (a .kind) (a .width) old
-    → steppedOf (lists m ws bs (l .lines) (l .pointers) (l .store)) es n (outcomeFrom r x) ≡ swapDirect (machineOf l es s n) a v p
+    → steppedOf (lists m (l .bad) ws bs (l .lines) (l .pointers) (l .store)) es n (outcomeFrom r x) ≡ swapDirect (machineOf l es s n) a v p
 unfolding swapDirect
 direct-left es s n a v l p r x old m k ws bs g e h f y =
     let written = ap (λ (t : Stepped). t .machine) (stores.direct-left es s n a v l (stores.storedBy r) p r m k ws bs g e f refl) in

@@ -23,9 +23,9 @@ fn swap_hit(lines: &mut [u64], store: &mut [u8], s: Scalars, a: Access, v: u32, 
     requires { ⌜ (length (now lines) ≡ 512) × (length (now store) ≡ 16384) × (i < 512) × (isWidth (a .width) ≡ true)
         × (s .counts .hits < countLimit) ⌝ }
     ensures { λ r.
-        ⌜ ((memory words : List ℕ) (bytes : List (List ℕ)) (pointers entries : List ℕ) (size : ℕ)
-        → steppedOf (lists memory words bytes (now (lines .exit)) pointers (now (store .exit))) entries size r
-        ≡ spec.swapHit (machineOf (lists memory words bytes (now (lines .entry)) pointers (now (store .entry))) entries s size) a v i) ⌝ }
+        ⌜ ((memory bad words : List ℕ) (bytes : List (List ℕ)) (pointers entries : List ℕ) (size : ℕ)
+        → steppedOf (lists memory bad words bytes (now (lines .exit)) pointers (now (store .exit))) entries size r
+        ≡ spec.swapHit (machineOf (lists memory bad words bytes (now (lines .entry)) pointers (now (store .entry))) entries s size) a v i) ⌝ }
 {
     let read = loads::load_hit(store, s, a, i);
     let old = read.answer;
@@ -40,6 +40,7 @@ fn swap_hit(lines: &mut [u64], store: &mut [u8], s: Scalars, a: Access, v: u32, 
 // A swap in memory, once the buffer is drained.
 fn swap_direct(
     memory: &mut [u8],
+    bad: &[u8],
     words: &mut [u64],
     bytes: &mut [[u8; 16]; 8],
     s: Scalars,
@@ -47,14 +48,15 @@ fn swap_direct(
     v: u32,
     p: Place,
 ) -> Outcome
-    requires { ⌜ MissReady (now memory) (now words) (now bytes) (s .used) a p × (aborts (physical (now memory)) (p .address) ≡ false) ⌝ }
+    requires { ⌜ MissReady (now memory) (now words) (now bytes) (s .used) a p × (aborts (physical (now memory) (now bad)) (p .address) ≡ false) ⌝ }
     ensures { λ r.
-        ⌜ LeavesBelow (now (memory .entry)) (now (words .entry)) (now (bytes .entry)) s (now (memory .exit)) (now (words .exit)) (now (bytes .exit)) r
+        ⌜ LeavesBelow (now (memory .entry)) (now (bad .entry)) (now (words .entry)) (now (bytes .entry)) s (now (memory .exit)) (now (words .exit))
+        (now (bytes .exit)) r
         (λ (m : Machine). spec.swapDirect m a v p) ⌝ }
 {
     let pa = p.address;
     let k = a.kind;
-    let drained = machine::drain(memory, words, bytes, s);
+    let drained = machine::drain(memory, bad, words, bytes, s);
     let old = words::load(memory, pa.0 as usize, a.width);
     words::store(memory, pa.0 as usize, a.width, v);
     Outcome {
@@ -66,6 +68,7 @@ fn swap_direct(
 // A swap that misses.
 fn swap_miss(
     memory: &mut [u8],
+    bad: &[u8],
     words: &mut [u64],
     bytes: &mut [[u8; 16]; 8],
     s: Scalars,
@@ -75,19 +78,21 @@ fn swap_miss(
 ) -> Outcome
     requires { ⌜ MissReady (now memory) (now words) (now bytes) (s .used) a p ⌝ }
     ensures { λ r.
-        ⌜ LeavesBelow (now (memory .entry)) (now (words .entry)) (now (bytes .entry)) s (now (memory .exit)) (now (words .exit)) (now (bytes .exit)) r
+        ⌜ LeavesBelow (now (memory .entry)) (now (bad .entry)) (now (words .entry)) (now (bytes .entry)) s (now (memory .exit)) (now (words .exit))
+        (now (bytes .exit)) r
         (λ (m : Machine). spec.swapMiss m a v p) ⌝ }
 {
-    if bus::aborts(memory, p.address) {
+    if bus::aborts(memory, bad, p.address) {
         let address = a.address;
         return reach::faulted(s, translation::other_status(p), p.domain, address);
     }
-    swap_direct(memory, words, bytes, s, a, v, p)
+    swap_direct(memory, bad, words, bytes, s, a, v, p)
 }
 
 // A store or a swap, by its kind: the Dcache is searched, even when disabled; a miss allocates no line.
 pub fn store_or_swap(
     memory: &mut [u8],
+    bad: &[u8],
     words: &mut [u64],
     bytes: &mut [[u8; 16]; 8],
     lines: &mut [u64],
@@ -101,8 +106,9 @@ pub fn store_or_swap(
         × (s .counts .hits < countLimit) ⌝ }
     ensures { λ r.
         ⌜ ((pointers : List ℕ)
-        → Leaves (lists (now (memory .entry)) (now (words .entry)) (now (bytes .entry)) (now (lines .entry)) pointers (now (cached .entry))) s
-        (lists (now (memory .exit)) (now (words .exit)) (now (bytes .exit)) (now (lines .exit)) pointers (now (cached .exit))) r
+        → Leaves (lists (now (memory .entry)) (now (bad .entry)) (now (words .entry)) (now (bytes .entry)) (now (lines .entry)) pointers
+        (now (cached .entry))) s
+        (lists (now (memory .exit)) (now (bad .entry)) (now (words .exit)) (now (bytes .exit)) (now (lines .exit)) pointers (now (cached .exit))) r
         (λ (m : Machine). storeOrSwap m a v p)) ⌝ }
 {
     let va = translation::cleared(a);
@@ -118,9 +124,9 @@ pub fn store_or_swap(
         },
         Search::Nothing => {
             if swaps {
-                return swap_miss(memory, words, bytes, s, a, v, p);
+                return swap_miss(memory, bad, words, bytes, s, a, v, p);
             }
-            stores::store_miss(memory, words, bytes, s, a, v, p)
+            stores::store_miss(memory, bad, words, bytes, s, a, v, p)
         },
     }
 }

@@ -74,7 +74,7 @@ module _ (n : ℕ) (m : Machine) (p : Plain) (h : History) (k : Shared n m p h) 
       let r5 : mmu (p .registers) ≡ true → R5 h = λ t. allowed .r5 (walked f t) in
       subst DecisionAlike (sym (decided-by (p .registers) a mapping f))
       (record {
-        same = checked-agrees (m .side .backing) p h long (k .side .words) (m .entries) (k .tlb) a r4 r5 ∙ sym (reach-aligned p a f);
+        same = checked-agrees (m .side .backing) p h long (k .same-map) (k .side .words) (m .entries) (k .tlb) a r4 r5 ∙ sym (reach-aligned p a f);
         shared = record {
           registers = k .registers;
           calls = calls-after (m .counts) mapping ∙ k .calls;
@@ -82,9 +82,10 @@ module _ (n : ℕ) (m : Machine) (p : Plain) (h : History) (k : Shared n m p h) 
           whole = k .whole;
           aligned = k .aligned;
           side-is = k .side-is;
+          same-map = k .same-map;
           side = k .side;
           tlb =
-              tlb-committed (m .side .backing) p h long (k .side .words) (m .entries) (k .tlb) a r4 r5 (k .aligned) (m .cp15 .pointer)
+              tlb-committed (m .side .backing) p h long (k .same-map) (k .side .words) (m .entries) (k .tlb) a r4 r5 (k .aligned) (m .cp15 .pointer)
               (λ t. allowed .r6 (walked f t));
         };
       })
@@ -134,8 +135,9 @@ module _ (n : ℕ) (m : Machine) (p : Plain) (h : History) (k : Shared n m p h) 
             whole = s .whole;
             aligned = s .aligned;
             side-is = s .side-is;
+            same-map = s .same-map;
             side = reach-side h va l (m₁ .side) (p .memory) (s .side) (subst (λ (c : Checked). R2 h va c) reached (allowed .r2));
-            tlb = tlb-history (p .registers .base) (p .memory) h (m₁ .entries) (s .tlb) (afterReach h va (Passed l)) refl (λ w t. t);
+            tlb = tlb-history (p .registers .base) (p .memory) (p .bad) h (m₁ .entries) (s .tlb) (afterReach h va (Passed l)) refl (λ w t. t);
           };
           here = reach-here h va l;
           width = width;

@@ -8,7 +8,7 @@ use Rattle.values.specs.declared.Fault.{Fault}
 use Rattle.values.specs.declared.Status.{Status}
 use Rattle.values.specs.declared.Answer.{Answer}
 use Rattle.translation.specs.Faults.{faultSet}
-use Rattle.machine.specs.Machine.{Machine, Stepped, steppedFrom}
+use Rattle.machine.specs.Machine.{Machine, badOf, Stepped, steppedFrom}
 use Rattle.reach.specs.Reach.{faulted}
 use Rattle.plain.specs.Plain.{Plain, PlainStepped, plainStepped, plainFaulted}
 use Rattle.soundness_laws.proofs.CacheKept.{SideIs}
@@ -23,8 +23,9 @@ pub record Shared (n : ℕ) (m : Machine) (p : Plain) (h : History) : Type 0 whe
   pub whole : n % 32 ≡ 0
   pub aligned : p .registers .base % 4 ≡ 0
   pub side-is : SideIs n (m .side)
+  pub same-map : badOf m ≡ p .bad
   pub side : SideAgrees (m .side) (p .memory) h
-  pub tlb : TlbAgrees (m .entries) (p .registers .base) (p .memory) h
+  pub tlb : TlbAgrees (m .entries) (p .registers .base) (p .memory) (p .bad) h
 
 -- after: the same answer, and what they share
 pub record Alike (n : ℕ) (x : Stepped) (y : PlainStepped) (h : History) : Type 0 where
@@ -32,8 +33,9 @@ pub record Alike (n : ℕ) (x : Stepped) (y : PlainStepped) (h : History) : Type
   pub registers : x .machine .cp15 .registers ≡ y .plain .registers
   pub calls : x .machine .counts .calls ≡ y .plain .calls
   pub long : length (y .plain .memory) ≡ n
+  pub same-map : badOf (x .machine) ≡ y .plain .bad
   pub side : SideAgrees (x .machine .side) (y .plain .memory) h
-  pub tlb : TlbAgrees (x .machine .entries) (y .plain .registers .base) (y .plain .memory) h
+  pub tlb : TlbAgrees (x .machine .entries) (y .plain .registers .base) (y .plain .memory) (y .plain .bad) h
 
 pub alike-by : (n : ℕ) (x x′ : Stepped) (y y′ : PlainStepped) (h : History) → x ≡ x′ → y ≡ y′ → Alike n x′ y′ h → Alike n x y h
 alike-by n x x′ y y′ h e f a = subst (λ (z : Stepped). Alike n z y h) (sym e) (subst (λ (z : PlainStepped). Alike n x′ z h) (sym f) a)
@@ -42,7 +44,15 @@ alike-by n x x′ y y′ h e f a = subst (λ (z : Stepped). Alike n z y h) (sym 
 pub still-alike : (n : ℕ) (m : Machine) (p : Plain) (h : History) → Shared n m p h → (x y : Answer) → x ≡ y
     → Alike n (steppedFrom m x) (plainStepped p y) h
 still-alike n m p h k x y e =
-    record { same-answer = e; registers = k .registers; calls = k .calls; long = k .long; side = k .side; tlb = k .tlb }
+    record {
+      same-answer = e;
+      registers = k .registers;
+      calls = k .calls;
+      long = k .long;
+      same-map = k .same-map;
+      side = k .side;
+      tlb = k .tlb;
+    }
 
 -- a fault sets FSR and FAR of both
 pub faulted-alike : (n : ℕ) (m : Machine) (p : Plain) (h : History) → Shared n m p h → (s : Status) (d : ℕ) (va : VirtualAddress)
@@ -55,6 +65,7 @@ faulted-alike n m p h k s d va =
       registers = ap (λ (r : Registers). faultSet r f) (k .registers);
       calls = k .calls;
       long = k .long;
+      same-map = k .same-map;
       side = k .side;
       tlb = k .tlb;
     }

@@ -1,7 +1,8 @@
 -- What a call and a start leave, by their refusal: a refused one changes nothing, any other call answers a value or a fault.
 use Prim.Native.Nat.{ℕ}
 use native.Mathlib.Omega.{arith}
-use mathlib.Core.Path.{_≡_, refl, sym, subst}
+use mathlib.Core.Bool.{true, false}
+use mathlib.Core.Path.{_≡_, refl, sym, _∙_, ap, subst}
 use mathlib.Core.List.{List}
 use lib.Dec.{eqb}
 use borrow.Author.Tests.{eq-eqb, ne-eqb}
@@ -20,13 +21,16 @@ use Rattle.values.specs.declared.Call.the-variants as calls
 use Rattle.values.specs.declared.Search.{Search}
 use Rattle.values.specs.declared.Search.the-variants.{At, Nothing}
 use Rattle.values.specs.declared.Status.{Status}
-use Rattle.values.proofs.Cases.{case}
+use Rattle.values.proofs.Cases.{case, clash}
 use Rattle.words.specs.Words.{valueAt}
 use Rattle.words.specs.Signed.{loadAnswer}
-use Rattle.bus.specs.Physical.{aborts}
+use Rattle.bus.specs.Physical.{aborts, wantedAborts, lineAborts}
+use Rattle.bus.proofs.Laws.{line-wanted}
 use Rattle.buffer.specs.Buffer.{drained}
-use Rattle.cache.specs.Dcache.{Side, find, hitLoad}
+use Rattle.cache.specs.Dcache.{Side, Sent, find, hitLoad, gaveWay}
+use Rattle.cache.proofs.Sending.{fill-aborted}
 use Rattle.translation.specs.Alignment.{cleared}
+use Rattle.translation.specs.Translation.{translation}
 use Rattle.translation.specs.Faults.{fills, buffers, fillStatus, otherStatus, faultSet}
 use Rattle.translation.specs.declared.Translation.{Translation}
 use Rattle.translation.specs.declared.Place.{Place}
@@ -34,7 +38,7 @@ use Rattle.translation.specs.declared.Checked.{Checked}
 use Rattle.translation.specs.declared.Checked.the-variants.{Passed, Denied}
 use Rattle.machine.specs.Machine.{Machine, memoryOf, storeOf, physicalOf, withCounts, Stepped}
 use Rattle.reach.specs.Reach.{decision, committed, faulted}
-use Rattle.loads.specs.Loads.{loadHit, loadFill, loadUncached, loadMiss, loadFound, load}
+use Rattle.loads.specs.Loads.{loadHit, afterFill, loadFill, loadUncached, loadMiss, loadFound, load}
 use Rattle.stores.specs.Stores.{storeHit, storeBuffered, storeDirect, storeMiss, storeFound, store}
 use Rattle.swaps.specs.Swaps.{swapHit, swapDirect, swapMiss, swapFound, swap}
 use Rattle.access.specs.Access.{passed, accessAt, access}
@@ -43,6 +47,8 @@ use Rattle.cp15.specs.Operations as cp15
 use Rattle.step.specs.Meets.{startRefusal, refusal}
 use Rattle.step.specs.Start.{started}
 use Rattle.step.specs.Call.{done, served}
+use Rattle.terms.specs.Callers.{onFill, placeBy, sideAborted}
+use Rattle.terms.proofs.Judged.{Decides, decision-decides}
 use Rattle.terms.specs.Term1.{ValueOrFault, Term1At, Term1Start}
 
 -- ---- what an accepted call answers
@@ -66,19 +72,23 @@ Answers s (Write t v) x = x .answer ≡ answer.Value 0
 -- ---- what holds of every fault, and of whatever answers a value, holds of every accepted call
 
 module _ (P : Stepped → Type 0) where
+  -- a fault before anything has given way
   module _ (m : Machine) (a : Access) (value : (x : Stepped) → Accessed (m .side) a x → P x)
-      (fault : (s : Status) (d : ℕ) → P (faulted m s d (a .address))) where
-    module _ (p : Place) where
+      (fault : (s : Status) (d : ℕ) → onFill s ≡ false → P (faulted m s d (a .address))) where
+    -- or a fill of which the wanted word or one before it aborts
+    module _ (p : Place)
+        (fill : wantedAborts (physicalOf m) (p .address) ≡ true → P (faulted (afterFill m a p) (fillStatus p) (p .domain) (a .address))) where
+      other-fault : P (faulted m (otherStatus p) (p .domain) (a .address))
+      other-fault = fault (otherStatus p) (p .domain) (case (p .page) (λ t. rw t) (λ t. rw t))
+
       load-miss-by : P (loadMiss m a p)
-      unfolding loadMiss loadFill loadUncached hitLoad
+      unfolding loadMiss loadFill loadUncached
       load-miss-by =
           case (fills (m .cp15 .registers) p)
           (λ f.
-          case (aborts (physicalOf m) (p .address)) (λ h. rw (f, h) (fault (fillStatus p) (p .domain)))
-          (λ h. rw (f, h) (value _ (of-cache _ refl))))
+          case (wantedAborts (physicalOf m) (p .address)) (λ h. rw (f, h) (fill h)) (λ h. rw (f, h) (value _ (of-memory _ refl))))
           (λ f.
-          case (aborts (physicalOf m) (p .address)) (λ h. rw (f, h) (fault (otherStatus p) (p .domain)))
-          (λ h. rw (f, h) (value _ (of-memory _ refl))))
+          case (aborts (physicalOf m) (p .address)) (λ h. rw (f, h) other-fault) (λ h. rw (f, h) (value _ (of-memory _ refl))))
 
       load-found-by : (x : Search) → P (loadFound m a p x)
       unfolding loadHit hitLoad
@@ -91,8 +101,7 @@ module _ (P : Stepped → Type 0) where
         store-miss-by =
             case (buffers (m .cp15 .registers) p) (λ f. rw f (value _ (stores v k refl)))
             (λ f.
-            case (aborts (physicalOf m) (p .address)) (λ h. rw (f, h) (fault (otherStatus p) (p .domain)))
-            (λ h. rw (f, h) (value _ (stores v k refl))))
+            case (aborts (physicalOf m) (p .address)) (λ h. rw (f, h) other-fault) (λ h. rw (f, h) (value _ (stores v k refl))))
 
         store-found-by : (x : Search) → P (storeFound m a v p x)
         unfolding storeHit
@@ -103,8 +112,7 @@ module _ (P : Stepped → Type 0) where
         swap-miss-by : P (swapMiss m a v p)
         unfolding swapMiss swapDirect
         swap-miss-by =
-            case (aborts (physicalOf m) (p .address)) (λ h. rw h (fault (otherStatus p) (p .domain)))
-            (λ h. rw h (value _ (swaps-memory _ refl)))
+            case (aborts (physicalOf m) (p .address)) (λ h. rw h other-fault) (λ h. rw h (value _ (swaps-memory _ refl)))
 
         swap-found-by : (x : Search) → P (swapFound m a v p x)
         unfolding swapHit loadHit hitLoad
@@ -118,18 +126,26 @@ module _ (P : Stepped → Type 0) where
       passed-by (Store v) e = store-found-by v e (find (m .side .cache .lines) (cleared a))
       passed-by (Swap v) e = swap-found-by v (find (m .side .cache .lines) (cleared a))
 
-    at-by : (c : Checked) → P (accessAt m a c)
+    at-by : (t : Translation) (c : Checked) → Decides (cleared a) t c
+        → ((p : Place) → p ≡ placeBy (cleared a) t → wantedAborts (physicalOf m) (p .address) ≡ true
+        → P (faulted (afterFill m a p) (fillStatus p) (p .domain) (a .address))) → P (accessAt m a c)
     unfolding accessAt
-    at-by (Denied s d) = fault s d
-    at-by (Passed p) = passed-by p (a .kind) refl
+    at-by t (Denied s d) k fill = fault s d k
+    at-by t (Passed p) k fill = passed-by p (fill p k) (a .kind) refl
 
   pub done-by : (m : Machine) (c : Call) → ((x : Stepped) → Answers (m .side) c x → P x)
-      → ((t : Translation) (s : Status) (d : ℕ) (va : VirtualAddress) → P (faulted (committed m t) s d va)) → P (done m c)
+      → ((t : Translation) (s : Status) (d : ℕ) (va : VirtualAddress) → onFill s ≡ false → P (faulted (committed m t) s d va))
+      → ((a : Access) → c ≡ calls.Access a → (t : Translation) (p : Place)
+      → p ≡ placeBy (cleared a) (translation (m .entries) (m .cp15 .registers) (physicalOf m) (cleared a))
+      → wantedAborts (physicalOf m) (p .address) ≡ true → P (faulted (afterFill (committed m t) a p) (fillStatus p) (p .domain) (a .address)))
+      → P (done m c)
   unfolding access committed cp15.read cp15.write
-  done-by m (calls.Access a) value fault =
-      let d = decision m a in at-by (committed m (d .mapping)) a value (λ s x. fault (d .mapping) s x (a .address)) (d .checked)
-  done-by m (Read t) value fault = value _ refl
-  done-by m (Write t v) value fault = value _ refl
+  done-by m (calls.Access a) value fault fill =
+      let d = decision m a in
+      at-by (committed m (d .mapping)) a value (λ s x k. fault (d .mapping) s x (a .address) k)
+      (translation (m .entries) (m .cp15 .registers) (physicalOf m) (cleared a)) (d .checked) (decision-decides m a) (fill a refl (d .mapping))
+  done-by m (Read t) value fault fill = value _ refl
+  done-by m (Write t v) value fault fill = value _ refl
 
 -- an answer that is a value
 abbrev IsValue : Answer → Type 0
@@ -168,15 +184,16 @@ value-or-fault x v = by (x .answer) v
 
 done-answers : (m : Machine) (c : Call) → ValueOrFault (done m c .answer)
 unfolding faulted
-done-answers m c = done-by (λ x. ValueOrFault (x .answer)) m c (λ x v. value-or-fault x (answers-value (m .side) c x v)) (λ t s d va. tt)
+done-answers m c = done-by (λ x. ValueOrFault (x .answer)) m c (λ x v. value-or-fault x (answers-value (m .side) c x v)) (λ t s d va k. tt) (λ a e t p q w. tt)
 
 -- ---- what a fault leaves
 
--- "A fault sets FSR, and FAR to the address given. Of the rest only the TLB and counts may change."
-pub record FaultKeeps (m : Machine) (f : Fault) (x : Machine) : Type 0 where
+-- "A fault sets FSR, and FAR to the address given. Of the rest only the TLB and counts may change"; but for a fill's abort
+pub record FaultKeeps (m : Machine) (c : Call) (f : Fault) (x : Machine) : Type 0 where
   pub sets-fsr : x .cp15 .registers .fsr ≡ fsrOf f
   pub sets-far : x .cp15 .registers .far ≡ f .address .0
-  pub side : x .side ≡ m .side
+  pub side : onFill (f .status) ≡ false → x .side ≡ m .side
+  pub fill-side : onFill (f .status) ≡ true → x .side ≡ sideAborted m c
   pub size : x .size ≡ m .size
   pub control : x .cp15 .registers .control ≡ m .cp15 .registers .control
   pub base : x .cp15 .registers .base ≡ m .cp15 .registers .base
@@ -189,16 +206,59 @@ no-fault (answer.Signed x) u f e = let z : _≡_ {A = ℕ} 0 1 = cc in absurd (o
 no-fault (answer.Fault g) u f e = u
 no-fault (answer.Refused n) u f e = u
 
-done-fault : (m : Machine) (c : Call) (f : Fault) → done m c .answer ≡ answer.Fault f → FaultKeeps m f (done m c .machine)
-unfolding faulted committed faultSet
+-- a fill whose wanted word or one before it aborts leaves an empty place
+fill-gone : (m : Machine) (a : Access) (t : Translation) (p : Place)
+    → p ≡ placeBy (cleared a) (translation (m .entries) (m .cp15 .registers) (physicalOf m) (cleared a))
+    → wantedAborts (physicalOf m) (p .address) ≡ true → afterFill (committed m t) a p .side ≡ sideAborted m (calls.Access a)
+unfolding afterFill committed
+fill-gone m a t p q w =
+    ap (λ (x : Sent). x .side)
+    (fill-aborted (m .side) (cleared a) (p .address)
+    (case (lineAborts (physicalOf m) (p .address)) (λ u. u) (λ u. clash w (line-wanted (physicalOf m) (p .address) u))))
+    ∙ ap (λ (x : Place). gaveWay (m .side) (cleared a) (x .address) .side) q
+
+done-fault : (m : Machine) (c : Call) (f : Fault) → done m c .answer ≡ answer.Fault f → FaultKeeps m c f (done m c .machine)
+unfolding faulted committed faultSet afterFill
 done-fault m c =
-    done-by (λ x. (f : Fault) → x .answer ≡ answer.Fault f → FaultKeeps m f (x .machine)) m c
+    done-by (λ x. (f : Fault) → x .answer ≡ answer.Fault f → FaultKeeps m c f (x .machine)) m c
     (λ x v f e. absurd (no-fault (x .answer) (answers-value (m .side) c x v) f e))
-    (λ t s d va f e.
+    (λ t s d va k f e.
     let g : Fault = record { status = s; domain = d; address = va } in
     let q : g ≡ f = cc in
-    subst (λ (y : Fault). FaultKeeps m y (faulted (committed m t) s d va .machine)) q
-    (record { sets-fsr = refl; sets-far = refl; side = refl; size = refl; control = refl; base = refl; domains = refl }))
+    subst (λ (y : Fault). FaultKeeps m c y (faulted (committed m t) s d va .machine)) q
+    (record {
+      sets-fsr = refl;
+      sets-far = refl;
+      side = λ z. refl;
+      fill-side = λ z. clash z k;
+      size = refl;
+      control = refl;
+      base = refl;
+      domains = refl;
+    }))
+    (λ a i t p j w f e.
+    let g : Fault = record { status = fillStatus p; domain = p .domain; address = a .address } in
+    let q : g ≡ f = cc in
+    subst (λ (y : Fault). FaultKeeps m c y (faulted (afterFill (committed m t) a p) (fillStatus p) (p .domain) (a .address) .machine)) q
+    (subst (λ (y : Call). FaultKeeps m y g (faulted (afterFill (committed m t) a p) (fillStatus p) (p .domain) (a .address) .machine)) (sym i)
+    (filled-keeps m a t p j w)))
+  where
+    filled-keeps : (m : Machine) (a : Access) (t : Translation) (p : Place)
+        → p ≡ placeBy (cleared a) (translation (m .entries) (m .cp15 .registers) (physicalOf m) (cleared a))
+        → wantedAborts (physicalOf m) (p .address) ≡ true
+        → FaultKeeps m (calls.Access a) (record { status = fillStatus p; domain = p .domain; address = a .address })
+        (faulted (afterFill (committed m t) a p) (fillStatus p) (p .domain) (a .address) .machine)
+    filled-keeps m a t p j w =
+        record {
+          sets-fsr = refl;
+          sets-far = refl;
+          side = λ z. clash (case (p .page) (λ u. rw u) (λ u. rw u)) z;
+          fill-side = λ z. fill-gone m a t p j w;
+          size = refl;
+          control = refl;
+          base = refl;
+          domains = refl;
+        }
 
 -- ---- a call and a start, by their refusal
 
@@ -210,16 +270,22 @@ call-by-refusal m c =
       answered = λ e. rw (eq-eqb (refusal m c) 0 e) (done-answers (withCounts m (counted (m .counts))) c);
     }
 
-pub start-by-refusal : (memory store : List ℕ) → Term1Start memory store
+pub start-by-refusal : (memory bad store : List ℕ) → Term1Start memory bad store
 unfolding started
-start-by-refusal memory store =
+start-by-refusal memory bad store =
     record {
       refused = λ z. rw (ne-eqb (startRefusal memory store) 0 z);
       answered = λ e. rw e;
     }
 
+-- counting the call changes nothing that a fill asks
+counted-gone : (m : Machine) (c : Call) → sideAborted (withCounts m (counted (m .counts))) c ≡ sideAborted m c
+counted-gone m (calls.Access a) = refl
+counted-gone m (Read t) = refl
+counted-gone m (Write t v) = refl
+
 -- a call that answers a fault
-pub served-fault : (m : Machine) (c : Call) (f : Fault) → served m c .answer ≡ answer.Fault f → FaultKeeps m f (served m c .machine)
+pub served-fault : (m : Machine) (c : Call) (f : Fault) → served m c .answer ≡ answer.Fault f → FaultKeeps m c f (served m c .machine)
 unfolding served
 served-fault m c f e =
     case (eqb (refusal m c) 0)
@@ -231,6 +297,7 @@ served-fault m c f e =
       sets-fsr = k .sets-fsr;
       sets-far = k .sets-far;
       side = k .side;
+      fill-side = λ z. k .fill-side z ∙ counted-gone m c;
       size = k .size;
       control = k .control;
       base = k .base;

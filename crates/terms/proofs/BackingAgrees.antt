@@ -13,11 +13,13 @@ use Rattle.values.specs.declared.PhysicalAddress.{PhysicalAddress}
 use Rattle.values.specs.declared.Line.{Line}
 use Rattle.values.proofs.Cases.{case, clash}
 use Rattle.words.specs.Words.{stored, Bytes}
+use Rattle.bus.specs.Physical.{isBad}
 use Rattle.buffer.specs.Buffer.{Backing, withMemory, drained, holds, ready, buffered}
 use Rattle.buffer.proofs.Below.{below}
 use Rattle.buffer.proofs.Lengths.{memory-drained}
 use Rattle.buffer.proofs.StoredBelow.{as-stored}
 use Rattle.cache.specs.Dcache.{halfSent, halvesSent}
+use Rattle.cache.proofs.Unchanged.{bad-half-sent}
 use Rattle.soundness_laws.proofs.BackingKept.{BackingIs}
 use Rattle.soundness_laws.proofs.CacheKept.{half-sent-kept}
 use Rattle.terms.specs.History.{Stage, afterDrain}
@@ -25,7 +27,7 @@ use Rattle.terms.specs.Rules.{isStored, isDrained}
 use Rattle.terms.proofs.Invariant.{SettledAt, Staged, dirtyAt}
 use Rattle.terms.proofs.Stages.{drained-cleaned, cleaned-before}
 use Rattle.terms.proofs.SettledBytes.{settled-over, settled-same, drained-over, drained-byte, drained-none, unmet-below, half-over}
-use Rattle.terms.proofs.SettledBytes.{settled-half, outside-stored, settled-buffered, buffered-over, new-stored}
+use Rattle.terms.proofs.SettledBytes.{settled-half, outside-stored, settled-buffered, outside-lands, bad-store-lands, buffered-over, new-stored}
 pub use Rattle.terms.proofs.SettledBytes.{Outside}
 
 -- ---- a dirty half sent out
@@ -34,12 +36,13 @@ module _ (n : ℕ) (dirty : Bool) (b : Backing) (k : BackingIs n b) (block : ℕ
   byte-sent : (x : ℕ) → getD (take 16 (drop a store)) (x % 16) 0 ≡ getD store (a + x % 16) 0
   byte-sent x = getD-take 16 (drop a store) (x % 16) 0 (omega arith) ∙ getD-drop a store (x % 16) 0
 
-  below-half : (x : ℕ) → below (halfSent dirty b block store a) x ≡ cond (eqb (x / 16) block && dirty) (getD store (a + x % 16) 0) (below b x)
-  below-half x = by dirty (eqb (x / 16) block) refl
+  below-half : (x : ℕ) → (x / 16 ≡ block → isBad (b .bad) (x / 4) ≡ false)
+      → below (halfSent dirty b block store a) x ≡ cond (eqb (x / 16) block && dirty) (getD store (a + x % 16) 0) (below b x)
+  below-half x good = by dirty (eqb (x / 16) block) refl
     where
       by : (d h : Bool) → eqb (x / 16) block ≡ h → below (halfSent d b block store a) x ≡ cond (h && d) (getD store (a + x % 16) 0) (below b x)
-      by true true e = half-over n b k block (take 16 (drop a store)) x ∙ rw e (byte-sent x)
-      by true false e = half-over n b k block (take 16 (drop a store)) x ∙ rw e
+      by true true e = half-over n b k block (take 16 (drop a store)) x good ∙ rw e (byte-sent x)
+      by true false e = half-over n b k block (take 16 (drop a store)) x good ∙ rw e
       by false true e = refl
       by false false e = refl
 
@@ -99,7 +102,8 @@ module _ (n : ℕ) (b : Backing) (k : BackingIs n b) where
 
   -- ---- the dirty halves of a line sent out
 
-  module _ (l : Line) (store : List ℕ) (a : ℕ) (bytes : Bytes store) (inside : l .frame * 32 + 32 ≤ n) (long : a + 32 ≤ length store) where
+  module _ (l : Line) (store : List ℕ) (a : ℕ) (bytes : Bytes store) (inside : l .frame * 32 + 32 ≤ n) (long : a + 32 ≤ length store)
+      (good : (x : ℕ) → x / 32 ≡ l .frame → isBad (b .bad) (x / 4) ≡ false) where
     abbrev low-sent : Backing
     low-sent = halfSent (l .low) b (l .frame * 2) store a
 
@@ -110,8 +114,9 @@ module _ (n : ℕ) (b : Backing) (k : BackingIs n b) where
     unfolding halvesSent
     below-sent x =
         below-half n (l .high) low-sent low-is (l .frame * 2 + 1) store (a + 16) (omega arith) x
+        (λ e. rw (bad-half-sent (l .low) b (l .frame * 2) store a) (good x (omega arith)))
         ∙ ap (λ (y : ℕ). cond (eqb (x / 16) (l .frame * 2 + 1) && l .high) (getD store (a + 16 + x % 16) 0) y)
-        (below-half n (l .low) b k (l .frame * 2) store a (omega arith) x)
+        (below-half n (l .low) b k (l .frame * 2) store a (omega arith) x (λ e. good x (omega arith)))
         ∙ case (eqb (x / 32) (l .frame))
         (λ t.
         let e : x / 32 ≡ l .frame = eqb-true (x / 32) (l .frame) t in
@@ -174,18 +179,19 @@ module _ (n : ℕ) (b : Backing) (k : BackingIs n b) where
         staged-store a b (λ x o e. e ∙ sym (outside-stored w pm a v x o))
         (λ x o e. settled-same b pm (stored w pm a v) x (sym (outside-stored w pm a v x o)) e)
 
-    module _ (pa : PhysicalAddress) (wide : 0 < w) (fits : pa .0 % 16 + w ≤ 16) (inside : blockOf pa * 16 + 16 ≤ n) where
+    module _ (pa : PhysicalAddress) (wide : 0 < w) (fits : pa .0 % 16 + w ≤ 16) (inside : blockOf pa * 16 + 16 ≤ n)
+        (good : (x : ℕ) → pa .0 ≤ x → x < pa .0 + w → isBad (b .bad) (x / 4) ≡ false) where
       -- into the buffer
       pub below-buffered : (x : ℕ) → (Outside (pa .0) w x → below b x ≡ getD pm x 0) → below (buffered b pa w v) x ≡ getD (stored w pm (pa .0) v) x 0
       below-buffered x h =
-          buffered-over n b k pa w v x fits ∙ new-stored pm (pa .0) w v x (below b x) fits (omega arith) h
+          buffered-over n b k pa w v x fits ∙ new-stored (b .bad) pm (pa .0) w v x (below b x) fits (omega arith) (good x) h
 
       pub staged-buffered : StoredTo (pa .0) → Staged b pm stage → Staged (buffered b pa w v) (stored w pm (pa .0) v) after
       staged-buffered =
           staged-store (pa .0) (buffered b pa w v) (λ x o e. below-buffered x (λ z. e))
           (λ x o e.
           settled-same (buffered b pa w v) pm (stored w pm (pa .0) v) x (sym (outside-stored w pm (pa .0) v x o))
-          (settled-buffered n b k pm pa w v x fits o e))
+          (settled-buffered n b k pm pa w v x fits (outside-lands (b .bad) pa w v x fits o) e))
 
       -- into memory, after a drain
       abbrev pub direct : Backing
@@ -197,8 +203,8 @@ module _ (n : ℕ) (b : Backing) (k : BackingIs n b) where
           let e : length m ≡ n = memory-drained b ∙ k .memory-long in
           record {
             in-memory =
-                sym (as-stored m (pa .0) w v x fits (omega arith))
-                ∙ new-stored pm (pa .0) w v x (getD m x 0) fits (omega arith) (λ o. drained-memory-below x ∙ h o);
+                sym (as-stored (b .bad) m (pa .0) w v x fits (omega arith) (good x))
+                ∙ new-stored (b .bad) pm (pa .0) w v x (getD m x 0) fits (omega arith) (good x) (λ o. drained-memory-below x ∙ h o);
             in-entries = λ j t. clash t (drained-none n b k j x);
           }
 
@@ -208,3 +214,20 @@ module _ (n : ℕ) (b : Backing) (k : BackingIs n b) where
       pub staged-direct : StoredTo (pa .0) → Staged b pm stage → Staged direct (stored w pm (pa .0) v) after
       staged-direct =
           staged-store (pa .0) direct (λ x o e. below-direct x (λ z. e)) (λ x o e. settled-direct x (λ z. settled-below pm x e))
+
+  -- ---- a store to a bad word: nothing of it goes to memory
+
+  module _ (pm : List ℕ) (pa : PhysicalAddress) (w v : ℕ) (fits : pa .0 % 4 + w ≤ 4) (bad : isBad (b .bad) (pa .0 / 4) ≡ true) where
+    in-block : pa .0 % 16 + w ≤ 16
+    in-block = omega arith
+
+    pub below-dropped : (x : ℕ) → below (buffered b pa w v) x ≡ below b x
+    below-dropped x = buffered-over n b k pa w v x in-block ∙ rw (bad-store-lands (b .bad) pa w v x fits bad)
+
+    pub staged-dropped : (stage : ℕ → Stage) → Staged b pm stage → Staged (buffered b pa w v) pm stage
+    staged-dropped stage s =
+        record {
+          cleaned-below = λ x h. below-dropped x ∙ s .cleaned-below x h;
+          drained-settled = λ x h.
+              settled-buffered n b k pm pa w v x in-block (bad-store-lands (b .bad) pa w v x fits bad) (s .drained-settled x h);
+        }

@@ -14,27 +14,27 @@ use Rattle.terms.specs.Positions.{some}
 use Rattle.terms.proofs.Quantified.{given-means, given-true, each-means, each-true, some-short, some-more, some-wider, first-of}
 use Rattle.terms.proofs.HistoryAt.{hist, hist-start, stale-next}
 
-module _ (memory : List ℕ) (list : List Call) where
+module _ (memory bad : List ℕ) (list : List Call) where
   -- the history before call j
   abbrev H : ℕ → History
-  H = hist memory list
+  H = hist memory bad list
 
   abbrev base : ℕ → Bool
-  base = at.writesBase memory list
+  base = at.writesBase memory bad list
 
   abbrev tlb : ℕ → Bool
-  tlb = at.flushesTlb memory list
+  tlb = at.flushesTlb memory bad list
 
   -- the table base write after which no whole TLB flush came
   abbrev Written : ℕ → Type 0
   Written j = (i : ℕ) × (i < j) × (base i ≡ true) × (some i j tlb ≡ false)
 
   stale-from : (j : ℕ) → H j .baseStale ≡ true → Written j
-  stale-from zero e = clash {b = false} (ap (λ (h : History). h .baseStale) (sym (hist-start memory list)) ∙ e) refl
+  stale-from zero e = clash {b = false} (ap (λ (h : History). h .baseStale) (sym (hist-start memory bad list)) ∙ e) refl
   stale-from (suc j) e =
       case (base j) (λ t. (j, omega arith, t, some-short tlb j (suc j) (omega arith)))
       (λ t.
-      let n = sym (stale-next memory list j) ∙ e in
+      let n = sym (stale-next memory bad list j) ∙ e in
       case (tlb j) (λ u. clash {b = false} (both t u n) refl) (λ u. earlier u (stale-from j (both t u n))))
     where
       both : {x y : Bool} → base j ≡ x → tlb j ≡ y → cond (base j) true (cond (tlb j) false (H j .baseStale)) ≡ true
@@ -54,21 +54,21 @@ module _ (memory : List ℕ) (list : List Call) where
       (λ t.
       let lower = ltb-true i j t in
       let none = or-none (some i j tlb) (tlb j) (sym (some-more tlb i j lower) ∙ n) in
-      stale-next memory list j ∙ rw (none .1, stale-to i j lower e (none .0)) (always (base j)))
+      stale-next memory bad list j ∙ rw (none .1, stale-to i j lower e (none .0)) (always (base j)))
       (λ t.
       let g = ltb-false i j t in
       let q : i ≡ j = omega arith in
       let here : base j ≡ true = ap base (sym q) ∙ e in
-      stale-next memory list j ∙ rw here)
+      stale-next memory bad list j ∙ rw here)
     where
       always : (x : Bool) → cond x true true ≡ true
       always true = refl
       always false = refl
 
   abbrev translates : ℕ → Bool
-  translates = at.translates memory list
+  translates = at.translates memory bad list
 
-  pub r5-steps : (j : ℕ) → ((f : ℕ) → f ≤ j → at.r5 memory list f ≡ true) → translates j ≡ true → H j .baseStale ≡ false
+  pub r5-steps : (j : ℕ) → ((f : ℕ) → f ≤ j → at.r5 memory bad list f ≡ true) → translates j ≡ true → H j .baseStale ≡ false
   unfolding at.r5
   r5-steps j all e = case (H j .baseStale) (λ t. fresh (stale-from j t)) (λ t. t)
     where
@@ -85,7 +85,7 @@ module _ (memory : List ℕ) (list : List Call) where
           clash (some-wider tlb (r .0) (f .0) j c (next (r .0) (f .0) (r .2) (f .1) c (f .3) (f .4))) (r .3))
           (λ t. clash (next (r .0) j (r .2) (r .1) (omega arith) e t) (r .3))
 
-  pub steps-r5 : (j : ℕ) → (translates j ≡ true → H j .baseStale ≡ false) → at.r5 memory list j ≡ true
+  pub steps-r5 : (j : ℕ) → (translates j ≡ true → H j .baseStale ≡ false) → at.r5 memory bad list j ≡ true
   unfolding at.r5
   steps-r5 j f =
       each-true _ j

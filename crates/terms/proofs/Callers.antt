@@ -33,26 +33,26 @@ use Rattle.terms.proofs.Answers.{call-by-refusal, start-by-refusal, ser
 -- ---- a refused call and a refused start
 
 refused-call : RefusedCallWords
-refused-call memory store s q c memory₁ store₁ r h z =
-    let m = machineIn memory store s q in
+refused-call memory bad store s q c memory₁ store₁ r h z =
+    let m = machineIn memory bad store s q in
     let e = h .calls ∙ call-by-refusal m c .refused z in (
-      held-same memory₁ store₁ (r .state) (r .cp15) memory store s q (h .places-after) (h .places) (ap (λ (x : Stepped). x .machine) e),
+      held-same bad memory₁ store₁ (r .state) (r .cp15) memory store s q (h .places-after) (h .places) (ap (λ (x : Stepped). x .machine) e),
       ap (λ (x : Stepped). x .answer) e,
     )
 
 refused-start : RefusedStartZeros
 refused-start memory store r h z =
-    let e = h .starts ∙ start-by-refusal memory store .refused z in
-    let zeros = ap (λ (x : starts.Started). x .machine) e ∙ sym (fresh-is 0 memory store) in
+    let e = h .starts [] ∙ start-by-refusal memory [] store .refused z in
+    let zeros = ap (λ (x : starts.Started). x .machine) e ∙ sym (fresh-is 0 memory [] store) in
     let eight : EightPlaces (zeroState 0) = record { words-long = refl; slots-long = refl } in
-    let same = held-same memory store (r .state) (r .cp15) memory store (zeroState 0) zeroCp15 (h .places) eight zeros in
+    let same = held-same [] memory store (r .state) (r .cp15) memory store (zeroState 0) zeroCp15 (h .places) eight zeros in
     (same .same-state, same .same-cp15, ap (λ (x : starts.Started). x .refusal) e)
 
 -- ---- the table
 
-start-number : (memory store : List ℕ) → starts.started memory store .refusal ≡ startRefusal memory store
+start-number : (memory bad store : List ℕ) → starts.started memory bad store .refusal ≡ startRefusal memory store
 unfolding starts.started
-start-number memory store = refl
+start-number memory bad store = refl
 
 -- the number of the first row met
 first-row : (rows : List (Row ℕ)) (n : ℕ) → (n ≡ 0 → ⊥) → refusalIn rows ≡ n → FirstRow rows n
@@ -110,8 +110,8 @@ refused-one (answer.Refused k) n u e = absurd u
 
 call-table : CallTable
 unfolding refusal
-call-table memory store s q c memory₁ store₁ r h n =
-    let m = machineIn memory store s q in
+call-table memory bad store s q c memory₁ store₁ r h n =
+    let m = machineIn memory bad store s q in
     let told = ap (λ (x : Stepped). x .answer) (h .calls) in (
       λ e.
           case (eqb (refusal m c) 0)
@@ -130,7 +130,7 @@ call-table memory store s q c memory₁ store₁ r h n =
 start-table : StartTable
 unfolding startRefusal
 start-table memory store r h n =
-    let told : r .refusal ≡ startRefusal memory store = ap (λ (x : starts.Started). x .refusal) (h .starts) ∙ start-number memory store in (
+    let told : r .refusal ≡ startRefusal memory store = ap (λ (x : starts.Started). x .refusal) (h .starts []) ∙ start-number memory [] store in (
       λ e. first-row (startMeets memory store) n (e .1) (sym told ∙ e .0),
       λ f. (told ∙ row-first (startMeets memory store) n f, above (startMeets memory store) (start-numbered memory store) n f),
     )
@@ -138,17 +138,17 @@ start-table memory store r h n =
 -- ---- the same for the same contents
 
 same-calls : SameCalls
-same-calls memory store s q c memory₁ store₁ r₁ h₁ memory₂ store₂ r₂ h₂ =
+same-calls memory bad store s q c memory₁ store₁ r₁ h₁ memory₂ store₂ r₂ h₂ =
     let e = h₁ .calls ∙ sym (h₂ .calls) in (
-      held-same memory₁ store₁ (r₁ .state) (r₁ .cp15) memory₂ store₂ (r₂ .state) (r₂ .cp15) (h₁ .places-after) (h₂ .places-after)
+      held-same bad memory₁ store₁ (r₁ .state) (r₁ .cp15) memory₂ store₂ (r₂ .state) (r₂ .cp15) (h₁ .places-after) (h₂ .places-after)
           (ap (λ (x : Stepped). x .machine) e),
       ap (λ (x : Stepped). x .answer) e,
     )
 
 same-runs : SameRuns
-same-runs memory store s q list answers memory₁ store₁ answers₁ r₁ h₁ memory₂ store₂ answers₂ r₂ h₂ =
+same-runs memory bad store s q list answers memory₁ store₁ answers₁ r₁ h₁ memory₂ store₂ answers₂ r₂ h₂ =
     let e = h₁ .runs ∙ sym (h₂ .runs) in (
-      held-same memory₁ store₁ (r₁ .state) (r₁ .cp15) memory₂ store₂ (r₂ .state) (r₂ .cp15) (h₁ .places-after) (h₂ .places-after)
+      held-same bad memory₁ store₁ (r₁ .state) (r₁ .cp15) memory₂ store₂ (r₂ .state) (r₂ .cp15) (h₁ .places-after) (h₂ .places-after)
           (ap (λ (x : Left Machine). x .machine) e),
       ap (λ (x : Left Machine). x .answers) e,
       ap (λ (x : Left Machine). x .made) e,
@@ -168,14 +168,17 @@ code-term1 =
 -- ---- what a fault leaves
 
 pub fault-leaves : FaultLeaves
-fault-leaves memory store s q c memory₁ store₁ r h f e =
-    let m = machineIn memory store s q in
+fault-leaves memory bad store s q c memory₁ store₁ r h f e =
+    let m = machineIn memory bad store s q in
     let left = ap (λ (x : Stepped). x .machine) (h .calls) in
     let k = served-fault m c f (sym (ap (λ (x : Stepped). x .answer) (h .calls)) ∙ e) in
     record {
       sets-fsr = ap (λ (x : Machine). x .cp15 .registers .fsr) left ∙ k .sets-fsr;
       sets-far = ap (λ (x : Machine). x .cp15 .registers .far) left ∙ k .sets-far;
-      same-side = side-same memory₁ store₁ (r .state) (r .cp15) memory store s q (h .places-after) (h .places) (ap (λ (x : Machine). x .side) left ∙ k .side);
+      same-side = λ z.
+          side-same bad memory₁ store₁ (r .state) (r .cp15) memory store s q (h .places-after) (h .places)
+          (ap (λ (x : Machine). x .side) left ∙ k .side z);
+      fill-side = λ z. ap (λ (x : Machine). x .side) left ∙ k .fill-side z;
       same-size = ap (λ (x : Machine). x .size) left ∙ k .size;
       same-control = ap (λ (x : Machine). x .cp15 .registers .control) left ∙ k .control;
       same-base = ap (λ (x : Machine). x .cp15 .registers .base) left ∙ k .base;

@@ -2,25 +2,25 @@
 use Prim.Native.Nat.{ℕ, _+_, _/_, _*_}
 use native.Mathlib.Omega.{arith}
 use mathlib.Core.Path.{_≡_, refl, sym, _∙_, ap}
-use mathlib.Core.List.{_∷_}
 use lib.Dec.{eqb}
 use lib.ListN.{length}
-use borrow.Author.Tests.{eqb-true}
+use borrow.Author.Tests.{eqb-true, eq-eqb}
 use Rattle.values.specs.Counts as counts
 use Rattle.values.specs.declared.Access.{Access}
 use Rattle.values.specs.declared.Call.{Call}
 use Rattle.values.specs.declared.Call.the-variants.{Read, Write}
 use Rattle.values.specs.declared.Call.the-variants as calls
 use Rattle.values.proofs.Cases.{case}
-use Rattle.refusals.specs.Refusals.{refusalIn, row5, callRows, callRefusal}
-use Rattle.refusals.proofs.Rows.{rows-unmet, access-accepted}
-use Rattle.machine.specs.Machine.{Machine, memoryOf, withCounts}
+use Rattle.refusals.specs.Refusals.{callRefusal}
+use Rattle.refusals.proofs.Rows.{access-accepted}
+use Rattle.values.specs.Rows.{firstMet}
+use Rattle.machine.specs.Machine.{Machine, memoryOf, storeOf, withCounts}
 use Rattle.plain.specs.Plain.{Plain, plainReach, plainDone, plainRefusal, counted, plainly}
 use Rattle.soundness_laws.proofs.Holding.{Holding, holding-of}
-use Rattle.step.specs.Meets.{stateMeets, stateRefusal, refusal}
+use Rattle.step.specs.Meets.{refusal}
 use Rattle.step.specs.Call.{done, served, Numbers}
 use Rattle.step.proofs.SoundKept.{call-accepted, sound-kept}
-use Rattle.step.proofs.StateRefusals.{lengths-fit, not-state-refused, state-numbered, refusal-rows}
+use Rattle.step.proofs.StateRefusals.{lengths-fit, refusal-rows}
 use Rattle.terms.specs.History.{History, afterServed, after}
 use Rattle.terms.specs.Rules.{AccessAllowed, ServedAllowed, Allowed}
 use Rattle.terms.proofs.Invariant.{Agrees}
@@ -54,6 +54,7 @@ module _ (m : Machine) (p : Plain) (h : History) (g : Agrees m p h) where
         whole = holds .memory-lines;
         aligned = omega arith;
         side-is = holds .side;
+        same-map = g .same-map;
         side = g .side;
         tlb = g .tlb;
       }
@@ -75,14 +76,21 @@ module _ (m : Machine) (p : Plain) (h : History) (g : Agrees m p h) where
   -- ---- any call
 
   module _ (c : Call) (q : Numbers c) (r : Allowed p h c) where
-    -- refusals 1 to 4 do not hold, and the others are decided by the count of calls and by the call alone
+    -- refusals 1 to 4 do not hold, and the others are decided by the map, the count of calls and the call alone
     refusal-same : refusal m c ≡ plainRefusal p c
-    unfolding plainRefusal stateRefusal
+    unfolding plainRefusal firstMet
     refusal-same =
         let f = g .formed in
-        refusal-rows m c ∙ rows-unmet (stateMeets m) (row5 (m .counts .calls) ∷ callRows c) (state-numbered m)
-        (sym (not-state-refused m (lengths-fit n (f .memory-lines) (f .memory-short)) (f .store-long) (g .is-sound) (g .size)))
-        ∙ ap (λ (x : ℕ). refusalIn (row5 x ∷ callRows c)) (g .calls)
+        refusal-rows m c
+        ∙ rw (
+          lengths-fit n (f .memory-lines) (f .memory-short),
+          eq-eqb (length (storeOf m)) 16384 (f .store-long),
+          g .is-sound,
+          eq-eqb (m .size) n (g .size),
+          g .long,
+          g .same-map,
+          g .calls,
+        )
 
     -- the answer, and what the machines share after it
     call-alike : Alike n (served m c) (plainly p c) (after p h c)
@@ -99,6 +107,7 @@ module _ (m : Machine) (p : Plain) (h : History) (g : Agrees m p h) where
           registers = g .registers;
           calls = g .calls;
           long = sym (g .long);
+          same-map = g .same-map;
           side = g .side;
           tlb = g .tlb;
         }))
@@ -115,6 +124,7 @@ module _ (m : Machine) (p : Plain) (h : History) (g : Agrees m p h) where
             is-sound = s .1;
             size = s .3 ∙ g .size ∙ sym (s .2);
             long = s .2 ∙ sym (a .long);
+            same-map = a .same-map;
             side = a .side;
             tlb = a .tlb;
           },

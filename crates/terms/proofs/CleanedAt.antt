@@ -28,57 +28,57 @@ two-alone false false fl e = refl
 narrower : (f : ℕ → Bool) (i k j : ℕ) → k ≤ j → some i j f ≡ false → some i k f ≡ false
 narrower f i k j h e = case (some i k f) (λ t. clash (some-wider f i k j h t) e) (λ t. t)
 
-module _ (memory : List ℕ) (list : List Call) where
+module _ (memory bad : List ℕ) (list : List Call) where
   abbrev H : ℕ → History
-  H = hist memory list
+  H = hist memory bad list
 
   abbrev stores : ℕ → Bool
-  stores = at.stores memory list
+  stores = at.stores memory bad list
 
   abbrev line : ℕ → ℕ
-  line = at.lineAt memory list
+  line = at.lineAt memory bad list
 
   abbrev word : ℕ → ℕ
-  word = at.wordAt memory list
+  word = at.wordAt memory bad list
 
   abbrev n : ℕ
   n = length list
 
   abbrev covers : ℕ → ℕ → Bool
-  covers = at.covers memory list
+  covers = at.covers memory bad list
 
   abbrev lastToLine : ℕ → ℕ → Bool
-  lastToLine = at.lastToLine memory list
+  lastToLine = at.lastToLine memory bad list
 
   abbrev lastToWord : ℕ → ℕ → Bool
-  lastToWord = at.lastToWord memory list
+  lastToWord = at.lastToWord memory bad list
 
   abbrev translates : ℕ → Bool
-  translates = at.translates memory list
+  translates = at.translates memory bad list
 
   abbrev readsWord : ℕ → ℕ → Bool
-  readsWord = at.readsWord memory list
+  readsWord = at.readsWord memory bad list
 
   abbrev drains : ℕ → Bool
-  drains = at.drains memory list
+  drains = at.drains memory bad list
 
   abbrev flushesTlb : ℕ → Bool
-  flushesTlb = at.flushesTlb memory list
+  flushesTlb = at.flushesTlb memory bad list
 
   abbrev flushedSince : ℕ → ℕ → Bool
-  flushedSince = at.flushedSince memory list
+  flushedSince = at.flushedSince memory bad list
 
   abbrev drainedSince : ℕ → ℕ → Bool
-  drainedSince = at.drainedSince memory list
+  drainedSince = at.drainedSince memory bad list
 
   -- ---- a line
 
   module _ (l : ℕ) where
     abbrev st : ℕ → Bool
-    st = at.storesLine memory list l
+    st = at.storesLine memory bad list l
 
     abbrev cl : ℕ → Bool
-    cl = at.cleans memory list l
+    cl = at.cleans memory bad list l
 
     abbrev no : ℕ → Bool
     no j = false
@@ -87,13 +87,13 @@ module _ (memory : List ℕ) (list : List Call) where
     stage j = H j .lineStage l
 
     begins : stage 0 ≡ never
-    begins = ap (λ (h : History). h .lineStage l) (hist-start memory list)
+    begins = ap (λ (h : History). h .lineStage l) (hist-start memory bad list)
 
     goes : (j : ℕ) → stage (suc j) ≡ turned (st j) (cl j) (drains j) (no j) (stage j)
-    goes = line-next memory list l
+    goes = line-next memory bad list l
 
     one : (j : ℕ) → alone (cl j) (drains j) (no j) ≡ true
-    one j = two-alone (cl j) (drains j) (flushesTlb j) (one-at memory list l j)
+    one j = two-alone (cl j) (drains j) (flushesTlb j) (one-at memory bad list l j)
 
     -- the last store to the line before j, at i
     module _ (i j : ℕ) (b : i < j) (s : st i ≡ true) (u : some i j st ≡ false) where
@@ -117,16 +117,16 @@ module _ (memory : List ℕ) (list : List Call) where
 
   module _ (w : ℕ) where
     abbrev st-word : ℕ → Bool
-    st-word = at.storesWord memory list w
+    st-word = at.storesWord memory bad list w
 
     abbrev cl-word : ℕ → Bool
-    cl-word = at.cleans memory list (lineOfWord w)
+    cl-word = at.cleans memory bad list (lineOfWord w)
 
     abbrev word-stage : ℕ → Stage
     word-stage j = H j .wordStage w
 
     word-begins : word-stage 0 ≡ never
-    word-begins = ap (λ (h : History). h .wordStage w) (hist-start memory list)
+    word-begins = ap (λ (h : History). h .wordStage w) (hist-start memory bad list)
 
     -- after i and before j the line of the word cleaned, then a drain, then a whole TLB flush
     abbrev ready : ℕ → ℕ → Bool
@@ -135,14 +135,15 @@ module _ (memory : List ℕ) (list : List Call) where
     module _ (i j : ℕ) (b : i < j) (s : st-word i ≡ true) (u : some i j st-word ≡ false) where
       pub word-flushed : isFlushed (word-stage j) ≡ true → ready i j ≡ true
       word-flushed =
-          flushed-since st-word cl-word drains flushesTlb word-stage word-begins (word-next memory list w) (one-at memory list (lineOfWord w)) i j b s u
+          flushed-since st-word cl-word drains flushesTlb word-stage word-begins (word-next memory bad list w) (one-at memory bad list (lineOfWord w)) i j b s u
 
       pub flushed-word : ready i j ≡ true → isFlushed (word-stage j) ≡ true
       flushed-word =
-          since-flushed st-word cl-word drains flushesTlb word-stage word-begins (word-next memory list w) (one-at memory list (lineOfWord w)) i j b s u
+          since-flushed st-word cl-word drains flushesTlb word-stage word-begins (word-next memory bad list w) (one-at memory bad list (lineOfWord w)) i j b s u
 
     pub word-by : (j : ℕ) → ((i : ℕ) → i < j → st-word i ≡ true → some i j st-word ≡ false → isFlushed (word-stage j) ≡ true) → isFlushed (word-stage j) ≡ true
-    word-by = by-last st-word cl-word drains flushesTlb word-stage word-begins (word-next memory list w) (one-at memory list (lineOfWord w)) isFlushed true refl
+    word-by = by-last st-word cl-word drains flushesTlb word-stage word-begins (word-next memory bad list w)
+        (one-at memory bad list (lineOfWord w)) isFlushed true refl
 
   -- ---- a store at i, to its own line and word
 
@@ -159,11 +160,11 @@ module _ (memory : List ℕ) (list : List Call) where
   word-is w i s = eqb-true w (word i) (and-right (stores i) (eqb w (word i)) s)
 
   word-line : (i : ℕ) → lineOfWord (word i) ≡ line i
-  word-line i = let a = at.addressAt memory list i .0 in let e : a / 4 / 8 ≡ a / 32 = omega arith in e
+  word-line i = let a = at.addressAt memory bad list i .0 in let e : a / 4 / 8 ≡ a / 32 = omega arith in e
 
   -- ---- R3
 
-  pub r3-steps : (j : ℕ) → ((f : ℕ) → f ≤ j → at.r3 memory list f ≡ true) → (l : ℕ) → covers l j ≡ true → isStored (H j .lineStage l) ≡ false
+  pub r3-steps : (j : ℕ) → ((f : ℕ) → f ≤ j → at.r3 memory bad list f ≡ true) → (l : ℕ) → covers l j ≡ true → isStored (H j .lineStage l) ≡ false
   unfolding at.r3By
   r3-steps j all l c = line-by l isStored false refl j (λ i b s u. cleaned-line l i j b s u (clean i b s u))
     where
@@ -187,7 +188,7 @@ module _ (memory : List ℕ) (list : List Call) where
           some-wider (cl l) i (f .0) j h (first i (f .0) (f .1) h s u (f .3) (f .4)))
           (λ t. first i j b (omega arith) s u c t)
 
-  pub steps-r3 : (j : ℕ) → ((l : ℕ) → covers l j ≡ true → isStored (H j .lineStage l) ≡ false) → at.r3 memory list j ≡ true
+  pub steps-r3 : (j : ℕ) → ((l : ℕ) → covers l j ≡ true → isStored (H j .lineStage l) ≡ false) → at.r3 memory bad list j ≡ true
   unfolding at.r3By
   steps-r3 j f =
       each-true _ j
@@ -202,7 +203,7 @@ module _ (memory : List ℕ) (list : List Call) where
 
   -- ---- R4
 
-  pub r4-steps : (j : ℕ) → at.r4 memory list j ≡ true → (w : ℕ) → translates j ≡ true → readsWord w j ≡ true
+  pub r4-steps : (j : ℕ) → at.r4 memory bad list j ≡ true → (w : ℕ) → translates j ≡ true → readsWord w j ≡ true
       → isFlushed (H j .wordStage w) ≡ true
   unfolding at.r4By
   r4-steps j e w x y =
@@ -216,7 +217,7 @@ module _ (memory : List ℕ) (list : List Call) where
       flushed-word w i j b s u (subst (λ (v : ℕ). ready v i j ≡ true) (sym q) (rw k r)))
 
   pub steps-r4 : (j : ℕ) → ((w : ℕ) → translates j ≡ true → readsWord w j ≡ true → isFlushed (H j .wordStage w) ≡ true)
-      → at.r4 memory list j ≡ true
+      → at.r4 memory bad list j ≡ true
   unfolding at.r4By
   steps-r4 j f =
       each-true _ j
@@ -233,7 +234,7 @@ module _ (memory : List ℕ) (list : List Call) where
 
   -- ---- the end
 
-  pub line-settled : (l : ℕ) → isDrained (H n .lineStage l) ≡ true → at.settledLine memory list l ≡ true
+  pub line-settled : (l : ℕ) → isDrained (H n .lineStage l) ≡ true → at.settledLine memory bad list l ≡ true
   unfolding at.settledBy
   line-settled l e =
       each-true _ n
@@ -246,7 +247,7 @@ module _ (memory : List ℕ) (list : List Call) where
       let u = not-true (some i n (st (line i))) (and-right (stores i) (not (some i n (st (line i)))) m) in
       rw (← q) (line-drained l i n b s (rw q u) e)))
 
-  pub settled-line : (l : ℕ) → at.settledLine memory list l ≡ true → isDrained (H n .lineStage l) ≡ true
+  pub settled-line : (l : ℕ) → at.settledLine memory bad list l ≡ true → isDrained (H n .lineStage l) ≡ true
   unfolding at.settledBy
   settled-line l e =
       line-by l isDrained true refl n

@@ -15,6 +15,8 @@ use Rattle.values.specs.declared.Search.{Search}
 use Rattle.values.specs.declared.Search.the-variants.{At, Nothing}
 use Rattle.values.proofs.Cases.{case, clash, or-left, or-right}
 use Rattle.buffer.specs.Buffer.{Backing, drained}
+use Rattle.buffer.proofs.Lengths.{bad-drained}
+use Rattle.cache.proofs.Unchanged.{bad-cleaned-at}
 use Rattle.buffer.proofs.Below.{below}
 use Rattle.cache.specs.Dcache.{Side, sideFrom, find, cleanLine, cleanedAt, cleaned}
 use Rattle.cache.proofs.PutGet.{SameLine, line-cleaned, other-cleaned, same-cleaned-at, backing-cleaned, clean-none, cleaned-as}
@@ -49,6 +51,7 @@ drained-side n s k pm h g =
         dirty-through = g .cache .dirty-through;
         one = g .cache .one;
       };
+      good = λ i x u e. rw (bad-drained (s .backing)) (g .good i x u e);
       under = λ x u. below-drained n (s .backing) (k .backing) x ∙ g .under x u;
       words = staged-drained n (s .backing) (k .backing) pm (byWord h) (g .words);
       lines = staged-drained n (s .backing) (k .backing) pm (byLine h) (g .lines);
@@ -107,6 +110,7 @@ module _ (n : ℕ) (s : Side) (k : SideIs n s) (pm : List ℕ) (h : History) (g 
             dirty-through = dirty-kept (λ (j : ℕ) (y : Line). h .through (y .frame) ≡ y .tag * 16 + j / 32) (g .cache .dirty-through);
             one = g .cache .one;
           };
+          good = λ j x u e. rw (bad-cleaned-at s (At i)) (g .good j x (was-valid j u) (e ∙ same j .frame));
           under = λ x u. ap (λ (b : Backing). below b x) (backing-cleaned s i) ∙ sent-below n s k pm h g i low x (others x u);
           words = subst (λ (b : Backing). Staged b pm (byWord h)) (sym (backing-cleaned s i)) (sent-staged n s k pm h g i low (byWord h) (g .words));
           lines = subst (λ (b : Backing). Staged b pm (byLine h)) (sym (backing-cleaned s i)) (sent-staged n s k pm h g i low (byLine h) (g .lines));
@@ -204,6 +208,7 @@ module _ (n : ℕ) (s : Side) (k : SideIs n s) (pm : List ℕ) (h : History) (g 
             dirty-through = a .cache .dirty-through;
             one = a .cache .one;
           };
+          good = a .good;
           under = a .under;
           words = staged (λ x. lineOfWord (x / 4)) word-line (byWord h) (a .words);
           lines = staged (λ x. x / 32) (λ x. refl) (byLine h) (a .lines);

@@ -32,24 +32,25 @@ module _ {M : Type 1} (𝓤 : URA M) (H : Heap 𝓤) (A : Atoms 𝓤) (mem : Mem
   start-contract κs a r = (refl, refl)
 
   -- state and record, by value, are the first two arguments
-  pub call-contract : (κs : Lfts 2) (a : Args call.signature κs) (r : Res call.signature κs)
+  pub call-contract : (κs : Lfts 3) (a : Args call.signature κs) (r : Res call.signature κs)
       → (call.spec 𝓤 H A mem code κs a .requires tt ≡ ⊤ₛ)
       × (call.spec 𝓤 H A mem code κs a .ensures tt r
       ≡ exits 𝓤 H A call.signature (call.ended .kept) κs a
-      (λ e. ⌜ Calls (now (a .1 .1 .0)) (now (a .1 .1 .1 .0)) (a .0) (a .1 .0) (a .1 .1 .1 .1 .0) (now (e .1 .1 .0)) (now (e .1 .1 .1 .0)) r ⌝))
+      (λ e. ⌜ Calls (now (a .1 .1 .0)) (now (a .1 .1 .1 .0)) (now (a .1 .1 .1 .1 .0)) (a .0) (a .1 .0) (a .1 .1 .1 .1 .1 .0)
+      (now (e .1 .1 .0)) (now (e .1 .1 .1 .1 .0)) r ⌝))
   call-contract κs a r = (refl, refl)
 
-  pub run-contract : (κs : Lfts 4) (a : Args run.signature κs) (r : Res run.signature κs)
+  pub run-contract : (κs : Lfts 5) (a : Args run.signature κs) (r : Res run.signature κs)
       → (run.spec 𝓤 H A mem code κs a .requires tt ≡ ⊤ₛ)
       × (run.spec 𝓤 H A mem code κs a .ensures tt r
       ≡ exits 𝓤 H A run.signature (run.ended .kept) κs a
-      (λ e. ⌜ Runs (now (a .1 .1 .0)) (now (a .1 .1 .1 .0)) (a .0) (a .1 .0) (now (a .1 .1 .1 .1 .0)) (now (a .1 .1 .1 .1 .1 .0))
-      (now (e .1 .1 .0)) (now (e .1 .1 .1 .0)) (now (e .1 .1 .1 .1 .1 .0)) r ⌝))
+      (λ e. ⌜ Runs (now (a .1 .1 .0)) (now (a .1 .1 .1 .0)) (now (a .1 .1 .1 .1 .0)) (a .0) (a .1 .0) (now (a .1 .1 .1 .1 .1 .0))
+      (now (a .1 .1 .1 .1 .1 .1 .0)) (now (e .1 .1 .0)) (now (e .1 .1 .1 .1 .0)) (now (e .1 .1 .1 .1 .1 .1 .0)) r ⌝))
   run-contract κs a r = (refl, refl)
 
-  pub plain-run-contract : (κs : Lfts 3) (a : Args plain-run.signature κs) (r : Res plain-run.signature κs)
+  pub plain-run-contract : (κs : Lfts 4) (a : Args plain-run.signature κs) (r : Res plain-run.signature κs)
       → (plain-run.spec 𝓤 H A mem code κs a .requires tt ≡ ⊤ₛ)
       × (plain-run.spec 𝓤 H A mem code κs a .ensures tt r
       ≡ exits 𝓤 H A plain-run.signature (plain-run.ended .kept) κs a
-      (λ e. ⌜ PlainCodeRun (now (a .0)) (now (a .1 .0)) (now (a .1 .1 .0)) (now (e .0)) (now (e .1 .1 .0)) r ⌝))
+      (λ e. ⌜ PlainCodeRun (now (a .0)) (now (a .1 .0)) (now (a .1 .1 .0)) (now (a .1 .1 .1 .0)) (now (e .0)) (now (e .1 .1 .1 .0)) r ⌝))
   plain-run-contract κs a r = (refl, refl)

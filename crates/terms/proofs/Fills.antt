@@ -14,13 +14,17 @@ use Rattle.values.specs.declared.PhysicalAddress.{PhysicalAddress}
 use Rattle.values.specs.declared.Line.{Line}
 use Rattle.values.specs.declared.Search.the-variants.{Nothing}
 use Rattle.values.proofs.Cases.{case, clash}
-use Rattle.buffer.specs.Buffer.{Backing, drained, ready}
+use Rattle.buffer.specs.Buffer.{Backing, physicalBehind, drained, ready}
 use Rattle.buffer.proofs.Below.{below}
-use Rattle.cache.specs.Dcache.{Side, sideFrom, find, victim, freshLine, halvesSent, filled}
-use Rattle.cache.proofs.PutGet.{filled-backing, line-filled, other-filled, byte-filled, byte-before-filled, byte-behind-filled}
-use Rattle.cache.proofs.Unchanged.{victim-low}
+use Rattle.buffer.proofs.Lengths.{bad-ready}
+use Rattle.cache.specs.Dcache.{Dcache, Side, sideFrom, find, victim, freshLine, halvesSent, gaveWay, filled}
+use Rattle.cache.proofs.PutGet.{line-read, other-read, byte-read, byte-before-read, byte-behind-read}
+use Rattle.cache.proofs.PutGet.{way-backing, line-way, other-way, way-store, readInto, fill-cases}
+use Rattle.bus.specs.Physical.{isBad, lineAborts}
+use Rattle.bus.proofs.Laws.{line-inside, line-good}
+use Rattle.cache.proofs.Unchanged.{victim-low, memory-way, bad-way}
 use Rattle.soundness_laws.proofs.BackingKept.{BackingIs}
-use Rattle.soundness_laws.proofs.CacheKept.{SideIs, halves-kept}
+use Rattle.soundness_laws.proofs.CacheKept.{SideIs, halves-kept, way-kept}
 use Rattle.terms.specs.History.{Stage, History}
 use Rattle.terms.specs.Rules.{isStored}
 use Rattle.terms.proofs.Invariant.{at, dirtyAt, Undirty, Staged, byWord, byLine, SideAgrees}
@@ -34,6 +38,7 @@ pub ready-side : (n : ℕ) (s : Side) (k : SideIs n s) (pm : List ℕ) (h : Hist
 ready-side n s k pm h a w g =
     record {
       cache = g .cache;
+      good = λ i x v e. rw (bad-ready (s .backing) a w) (g .good i x v e);
       under = λ x u. below-ready n (s .backing) (k .backing) a w x ∙ g .under x u;
       words = staged-ready n (s .backing) (k .backing) pm (byWord h) a w (g .words);
       lines = staged-ready n (s .backing) (k .backing) pm (byLine h) a w (g .lines);
@@ -55,91 +60,141 @@ module _ (n : ℕ) (s : Side) (k : SideIs n s) (pm : List ℕ) (h : History) (g 
   pub drained-byte : (x : ℕ) → x / 32 ≡ pa .0 / 32 → getD (drained (s .backing) .memory) x 0 ≡ getD pm x 0
   drained-byte x e = drained-memory-below n (s .backing) (k .backing) x ∙ g .under x (λ i u f. absurd (not-held i u (f ∙ e)))
 
-  -- ---- a fill
+  -- ---- a fill: the victim gives way
 
-  module _ (inside : pa .0 / 32 * 32 + 32 ≤ n) where
-    abbrev j : ℕ
-    j = victim (s .cache) va
+  abbrev j : ℕ
+  j = victim (s .cache) va
 
-    abbrev s′ : Side
-    s′ = filled s va pa .side
+  abbrev w : Side
+  w = gaveWay s va pa .side
 
-    abbrev gone : Backing
-    gone = halvesSent (s .backing) (at (s .cache .lines) j) (s .cache .store) (j * 32)
+  abbrev gone : Backing
+  gone = halvesSent (s .backing) (at (s .cache .lines) j) (s .cache .store) (j * 32)
 
-    low : j < 512
-    low = victim-low (s .cache) va (let p = k .cache .pointers (setOf va) in omega arith)
+  low : j < 512
+  low = victim-low (s .cache) va (let p = k .cache .pointers (setOf va) in omega arith)
 
-    in-set : j / 32 ≡ setOf va
-    in-set = let p = k .cache .pointers (setOf va) in quotient (setOf va) (getD (s .cache .pointers) (setOf va) 0) p
-      where
-        quotient : (q p : ℕ) → p ≤ 31 → (q * 32 + p) / 32 ≡ q
-        quotient q p r = omega arith
+  in-set : j / 32 ≡ setOf va
+  in-set = let p = k .cache .pointers (setOf va) in quotient (setOf va) (getD (s .cache .pointers) (setOf va) 0) p
+    where
+      quotient : (q p : ℕ) → p ≤ 31 → (q * 32 + p) / 32 ≡ q
+      quotient q p r = omega arith
 
-    line-j : at (s′ .cache .lines) j ≡ freshLine (tagOf va) (pa .0 / 32)
-    line-j = line-filled s va pa (let e = k .cache .shape .lines-long in let b = low in omega arith)
+  gone-is : BackingIs n gone
+  gone-is =
+      halves-kept n (s .backing) (at (s .cache .lines) j) (s .cache .store) (j * 32) (k .cache .lines j) (k .cache .store-bytes)
+      (omega (arith, k .cache .shape .store-long, low)) (k .backing)
 
-    other : (i : ℕ) → i ≢ j → at (s′ .cache .lines) i ≡ at (s .cache .lines) i
-    other i d = other-filled s va pa i d
+  -- no line is left in its place
+  empty-j {ℓ} : {A : Type ℓ} → at (w .cache .lines) j .valid ≡ true → A
+  empty-j v = clash v (ap (λ (y : Line). y .valid) (line-way s va pa))
 
-    gone-is : BackingIs n gone
-    gone-is =
-        halves-kept n (s .backing) (at (s .cache .lines) j) (s .cache .store) (j * 32) (k .cache .lines j) (k .cache .store-bytes)
-        (omega (arith, k .cache .shape .store-long, low)) (k .backing)
+  -- a fact about a valid line that is left, from the old lines
+  by-old {ℓ} : (P : ℕ → Line → Type ℓ) → ((i : ℕ) → at (s .cache .lines) i .valid ≡ true → P i (at (s .cache .lines) i)) → (i : ℕ)
+      → at (w .cache .lines) i .valid ≡ true → P i (at (w .cache .lines) i)
+  by-old P old i v =
+      case (eqb i j)
+      (λ t. empty-j (subst (λ (q : ℕ). at (w .cache .lines) q .valid ≡ true) (eqb-true i j t) v))
+      (λ t.
+      let e = other-way s va pa i (eqb-false i j t) in
+      subst (P i) (sym e) (old i (sym (ap (λ (y : Line). y .valid) e) ∙ v)))
 
-    -- no line of the new lines but the new one is another
-    others : (x : ℕ) → Undirty (s′ .cache .lines) x → (i : ℕ) → i ≢ j → at (s .cache .lines) i .valid ≡ true
-        → at (s .cache .lines) i .frame ≡ x / 32 → dirtyAt (at (s .cache .lines) i) x ≡ false
-    others x u i d v f =
-        let e = other i d in
-        subst (λ (y : Line). dirtyAt y x ≡ false) e (u i (ap (λ (y : Line). y .valid) e ∙ v) (ap (λ (y : Line). y .frame) e ∙ f))
+  -- no other line than the victim
+  others : (x : ℕ) → Undirty (w .cache .lines) x → (i : ℕ) → i ≢ j → at (s .cache .lines) i .valid ≡ true
+      → at (s .cache .lines) i .frame ≡ x / 32 → dirtyAt (at (s .cache .lines) i) x ≡ false
+  others x u i d v f =
+      let e = other-way s va pa i d in
+      subst (λ (y : Line). dirtyAt y x ≡ false) e (u i (ap (λ (y : Line). y .valid) e ∙ v) (ap (λ (y : Line). y .frame) e ∙ f))
 
-    -- a byte of the line that is read
-    read-byte : (x : ℕ) → x < 32 → getD (s′ .backing .memory) (pa .0 / 32 * 32 + x) 0 ≡ getD pm (pa .0 / 32 * 32 + x) 0
-    read-byte x b =
-        ap (λ (y : Backing). getD (y .memory) (pa .0 / 32 * 32 + x) 0) (filled-backing s va pa)
-        ∙ ready-memory-below n gone gone-is (pa .0 / 32 * 32) 32 (pa .0 / 32 * 32 + x) (omega arith) (omega arith)
-        ∙ sent-below n s k pm h g j low (pa .0 / 32 * 32 + x)
-        (λ i d v f. let e : (pa .0 / 32 * 32 + x) / 32 ≡ pa .0 / 32 = omega arith in absurd (not-held i v (f ∙ e)))
+  pub way-side : SideAgrees (gaveWay s va pa .side) pm h
+  way-side =
+      record {
+        cache = record {
+          held = λ i x v b.
+              ap (λ (l : List ℕ). getD l (i * 32 + x) 0) (way-store s va pa)
+              ∙ by-old (λ (q : ℕ) (y : Line). getD (s .cache .store) (q * 32 + x) 0 ≡ getD pm (y .frame * 32 + x) 0) (λ q u. g .cache .held q x u b) i v;
+          line-reached = by-old (λ (i : ℕ) (y : Line). h .reached (y .tag * 16 + i / 32) (y .frame) ≡ true) (g .cache .line-reached);
+          dirty-stored =
+              by-old (λ (i : ℕ) (y : Line). (y .low || y .high) ≡ true → isStored (h .lineStage (y .frame)) ≡ true) (g .cache .dirty-stored);
+          dirty-through =
+              by-old (λ (i : ℕ) (y : Line). (y .low || y .high) ≡ true → h .through (y .frame) ≡ y .tag * 16 + i / 32) (g .cache .dirty-through);
+          one = g .cache .one;
+        };
+        good = λ i x v e.
+            rw (bad-way s va pa)
+            (by-old (λ (q : ℕ) (y : Line). x / 32 ≡ y .frame → isBad (s .backing .bad) (x / 4) ≡ false) (λ q u f. g .good q x u f) i v e);
+        under = λ x u.
+            ap (λ (b : Backing). below b x) (way-backing s va pa) ∙ below-ready n gone gone-is (pa .0 / 32 * 32) 32 x
+            ∙ sent-below n s k pm h g j low x (others x u);
+        words = staged (byWord h) (g .words);
+        lines = staged (byLine h) (g .lines);
+      }
+    where
+      staged : (stage : ℕ → Stage) → Staged (s .backing) pm stage → Staged (w .backing) pm stage
+      staged stage q =
+          subst (λ (b : Backing). Staged b pm stage) (sym (way-backing s va pa))
+          (staged-ready n gone gone-is pm stage (pa .0 / 32 * 32) 32 (sent-staged n s k pm h g j low stage q))
 
-    store-fits : j * 32 + 32 ≤ length (s .cache .store)
-    store-fits = omega (arith, k .cache .shape .store-long, low)
+  -- a byte of the line that is read
+  pub way-byte : (x : ℕ) → x / 32 ≡ pa .0 / 32 → getD (gaveWay s va pa .side .backing .memory) x 0 ≡ getD pm x 0
+  way-byte x e =
+      ap (λ (y : Backing). getD (y .memory) x 0) (way-backing s va pa)
+      ∙ ready-memory-below n gone gone-is (pa .0 / 32 * 32) 32 x (omega arith) (omega arith)
+      ∙ sent-below n s k pm h g j low x (λ i d v f. absurd (not-held i v (f ∙ e)))
 
-    memory-fits : pa .0 / 32 * 32 + 32 ≤ length (s .backing .memory)
-    memory-fits = let e = k .backing .memory-long in omega arith
+  -- ---- the line is read
 
-    -- the bytes of the new line
-    pub filled-byte : (x : ℕ) → x < 32 → getD (filled s va pa .side .cache .store) (victim (s .cache) va * 32 + x) 0 ≡ getD pm (pa .0 / 32 * 32 + x) 0
-    filled-byte x b = byte-filled s va pa store-fits memory-fits x b ∙ read-byte x b
+  module _ (whole : lineAborts (physicalBehind (s .backing)) pa ≡ false) where
+    inside : pa .0 / 32 * 32 + 32 ≤ length (w .backing .memory)
+    inside = let i = line-inside (physicalBehind (s .backing)) pa whole in let e = memory-way s va pa in omega arith
 
-    held′ : (i x : ℕ) → at (s′ .cache .lines) i .valid ≡ true → x < 32
-        → getD (s′ .cache .store) (i * 32 + x) 0 ≡ getD pm (at (s′ .cache .lines) i .frame * 32 + x) 0
+    abbrev c′ : Dcache
+    c′ = readInto s va pa
+
+    w-is : SideIs n w
+    w-is = way-kept n s va pa k
+
+    line-j : at (c′ .lines) j ≡ freshLine (tagOf va) (pa .0 / 32)
+    line-j =
+        line-read (w .cache) j va pa (w .backing .memory) (let e = w-is .cache .shape .lines-long in let b = low in omega arith)
+
+    other : (i : ℕ) → i ≢ j → at (c′ .lines) i ≡ at (w .cache .lines) i
+    other i d = other-read (w .cache) j va pa (w .backing .memory) i d
+
+    store-fits : j * 32 + 32 ≤ length (w .cache .store)
+    store-fits = omega (arith, w-is .cache .shape .store-long, low)
+
+    held′ : (i x : ℕ) → at (c′ .lines) i .valid ≡ true → x < 32 → getD (c′ .store) (i * 32 + x) 0 ≡ getD pm (at (c′ .lines) i .frame * 32 + x) 0
     held′ i x v b =
         case (eqb i j)
         (λ t.
         let e = eqb-true i j t in
-        subst (λ (q : ℕ). getD (s′ .cache .store) (q * 32 + x) 0 ≡ getD pm (at (s′ .cache .lines) q .frame * 32 + x) 0) (sym e)
-        (filled-byte x b ∙ ap (λ (y : Line). getD pm (y .frame * 32 + x) 0) (sym line-j)))
+        subst (λ (q : ℕ). getD (c′ .store) (q * 32 + x) 0 ≡ getD pm (at (c′ .lines) q .frame * 32 + x) 0) (sym e)
+        (byte-read (w .cache) j va pa (w .backing .memory) store-fits inside x b ∙ way-byte (pa .0 / 32 * 32 + x) (omega arith)
+        ∙ ap (λ (y : Line). getD pm (y .frame * 32 + x) 0) (sym line-j)))
         (λ t.
         let d = eqb-false i j t in
         let e = other i d in
-        store-same d ∙ g .cache .held i x (sym (ap (λ (y : Line). y .valid) e) ∙ v) b ∙ ap (λ (y : Line). getD pm (y .frame * 32 + x) 0) (sym e))
+        store-same d ∙ way-side .cache .held i x (sym (ap (λ (y : Line). y .valid) e) ∙ v) b ∙ ap (λ (y : Line). getD pm (y .frame * 32 + x) 0) (sym e))
       where
-        store-same : i ≢ j → getD (s′ .cache .store) (i * 32 + x) 0 ≡ getD (s .cache .store) (i * 32 + x) 0
+        store-same : i ≢ j → getD (c′ .store) (i * 32 + x) 0 ≡ getD (w .cache .store) (i * 32 + x) 0
         store-same d =
-            case (ltb i j) (λ t. let y = ltb-true i j t in byte-before-filled s va pa store-fits memory-fits (i * 32 + x) (omega arith))
-            (λ t. let y = ltb-false i j t in byte-behind-filled s va pa store-fits memory-fits (i * 32 + x) (let z = above d y in omega arith))
+            case (ltb i j)
+            (λ t. let y = ltb-true i j t in byte-before-read (w .cache) j va pa (w .backing .memory) store-fits inside (i * 32 + x) (omega arith))
+            (λ t.
+            let y = ltb-false i j t in
+            byte-behind-read (w .cache) j va pa (w .backing .memory) store-fits inside (i * 32 + x) (let z = above d y in omega arith))
           where
             above : i ≢ j → j ≤ i → j < i
             above r q = case (eqb i j) (λ u. absurd (r (eqb-true i j u))) (λ u. let z = eqb-false i j u in omega arith)
 
-    -- a fact about a valid line of the new lines, from the new line and the old lines
+    -- a fact about a valid line of the new lines, from the new line and those that were left
     by-line {ℓ} : (P : ℕ → Line → Type ℓ) → P j (freshLine (tagOf va) (pa .0 / 32))
-        → ((i : ℕ) → at (s .cache .lines) i .valid ≡ true → P i (at (s .cache .lines) i)) → (i : ℕ) → at (s′ .cache .lines) i .valid ≡ true
-        → P i (at (s′ .cache .lines) i)
+        → ((i : ℕ) → at (w .cache .lines) i .valid ≡ true → P i (at (w .cache .lines) i)) → (i : ℕ) → at (c′ .lines) i .valid ≡ true
+        → P i (at (c′ .lines) i)
     by-line P new old i v =
         case (eqb i j)
-        (λ t. let e = eqb-true i j t in subst (λ (q : ℕ). P q (at (s′ .cache .lines) q)) (sym e) (subst (P j) (sym line-j) new))
+        (λ t. let e = eqb-true i j t in subst (λ (q : ℕ). P q (at (c′ .lines) q)) (sym e) (subst (P j) (sym line-j) new))
         (λ t.
         let e = other i (eqb-false i j t) in
         subst (P i) (sym e) (old i (sym (ap (λ (y : Line). y .valid) e) ∙ v)))
@@ -147,30 +202,38 @@ module _ (n : ℕ) (s : Side) (k : SideIs n s) (pm : List ℕ) (h : History) (g 
     virtual-j : va .0 / 512 * 16 + j / 32 ≡ va .0 / 32
     virtual-j = ap (λ (y : ℕ). va .0 / 512 * 16 + y) in-set ∙ (let e : va .0 / 512 * 16 + va .0 / 32 % 16 ≡ va .0 / 32 = omega arith in e)
 
-    pub filled-side : SideAgrees (filled s va pa .side) pm h
-    filled-side =
+    -- the new line has no dirty half, and its place was empty
+    undirty : (x : ℕ) → Undirty (c′ .lines) x → Undirty (w .cache .lines) x
+    undirty x u i v f =
+        case (eqb i j)
+        (λ t. empty-j (subst (λ (q : ℕ). at (w .cache .lines) q .valid ≡ true) (eqb-true i j t) v))
+        (λ t.
+        let e = other i (eqb-false i j t) in
+        subst (λ (y : Line). dirtyAt y x ≡ false) e (u i (ap (λ (y : Line). y .valid) e ∙ v) (ap (λ (y : Line). y .frame) e ∙ f)))
+
+    read-side : SideAgrees (sideFrom (readInto s va pa) (gaveWay s va pa .side .backing)) pm h
+    read-side =
         record {
           cache = record {
             held = held′;
             line-reached =
                 by-line (λ (i : ℕ) (y : Line). h .reached (y .tag * 16 + i / 32) (y .frame) ≡ true)
-                (ap (λ (q : ℕ). h .reached q (pa .0 / 32)) virtual-j ∙ here) (g .cache .line-reached);
+                (ap (λ (q : ℕ). h .reached q (pa .0 / 32)) virtual-j ∙ here) (way-side .cache .line-reached);
             dirty-stored =
                 by-line (λ (i : ℕ) (y : Line). (y .low || y .high) ≡ true → isStored (h .lineStage (y .frame)) ≡ true)
-                (λ d. clash {b = false} d refl) (g .cache .dirty-stored);
+                (λ d. clash {b = false} d refl) (way-side .cache .dirty-stored);
             dirty-through =
                 by-line (λ (i : ℕ) (y : Line). (y .low || y .high) ≡ true → h .through (y .frame) ≡ y .tag * 16 + i / 32)
-                (λ d. clash {b = false} d refl) (g .cache .dirty-through);
+                (λ d. clash {b = false} d refl) (way-side .cache .dirty-through);
             one = g .cache .one;
           };
-          under = λ x u.
-              ap (λ (b : Backing). below b x) (filled-backing s va pa) ∙ below-ready n gone gone-is (pa .0 / 32 * 32) 32 x
-              ∙ sent-below n s k pm h g j low x (others x u);
-          words = staged (byWord h) (g .words);
-          lines = staged (byLine h) (g .lines);
+          good = λ i x v e.
+              by-line (λ (q : ℕ) (y : Line). x / 32 ≡ y .frame → isBad (w .backing .bad) (x / 4) ≡ false)
+              (λ f. rw (bad-way s va pa) (line-good (physicalBehind (s .backing)) pa whole x f)) (λ q u f. way-side .good q x u f) i v e;
+          under = λ x u. way-side .under x (undirty x u);
+          words = way-side .words;
+          lines = way-side .lines;
         }
-      where
-        staged : (stage : ℕ → Stage) → Staged (s .backing) pm stage → Staged (s′ .backing) pm stage
-        staged stage q =
-            subst (λ (b : Backing). Staged b pm stage) (sym (filled-backing s va pa))
-            (staged-ready n gone gone-is pm stage (pa .0 / 32 * 32) 32 (sent-staged n s k pm h g j low stage q))
+
+  pub filled-side : SideAgrees (filled s va pa .side) pm h
+  filled-side = fill-cases s va pa (λ (t : Side). SideAgrees t pm h) (λ t. way-side) read-side

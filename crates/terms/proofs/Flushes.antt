@@ -13,6 +13,7 @@ use Rattle.values.specs.declared.Line.{Line}
 use Rattle.values.specs.declared.Search.{Search}
 use Rattle.values.specs.declared.Search.the-variants.{At, Nothing}
 use Rattle.values.proofs.Cases.{case, clash, or-left, or-right}
+use Rattle.bus.specs.Physical.{isBad}
 use Rattle.cache.specs.Dcache.{Dcache, Side, sideFrom, find, flushedAt, lineFlushed, allFlushed}
 use Rattle.cache.proofs.PutGet.{line-flushed, other-flushed, flush-none, flushed-as, all-flushed}
 use Rattle.cache.proofs.Unchanged.{store-flushed-at}
@@ -52,6 +53,7 @@ module _ (n : ℕ) (s : Side) (k : SideIs n s) (pm : List ℕ) (h : History) (g 
           dirty-through = λ i u d. none i u;
           one = record { physical = λ v p q a b. clash {b = false} a refl; virtual = λ v w p a b. clash {b = false} a refl };
         };
+        good = λ i x u e. none i u;
         under = λ x u. g .under x (λ i v f. clean-at (at (s .cache .lines) i) x (not-stored i v (r (at (s .cache .lines) i .frame))));
         words = g .words;
         lines = g .lines;
@@ -111,6 +113,8 @@ module _ (n : ℕ) (s : Side) (k : SideIs n s) (pm : List ℕ) (h : History) (g 
                   kept (λ (j : ℕ) (y : Line). (y .low || y .high) ≡ true → h .through (y .frame) ≡ y .tag * 16 + j / 32) (g .cache .dirty-through);
               one = g .cache .one;
             };
+            good = λ j x u e.
+                kept (λ (q : ℕ) (y : Line). x / 32 ≡ y .frame → isBad (s .backing .bad) (x / 4) ≡ false) (λ q v f. g .good q x v f) j u e;
             under = λ x u. g .under x (undirty x u);
             words = g .words;
             lines = g .lines;
@@ -146,6 +150,7 @@ pub tlb-flushed-side : (s : Side) (pm : List ℕ) (h : History) → SideAgrees s
 tlb-flushed-side s pm h g =
     record {
       cache = g .cache;
+      good = g .good;
       under = g .under;
       words = record {
         cleaned-below = λ x e. g .words .cleaned-below x (sym (tlb-stored-stage (byWord h x)) ∙ e);

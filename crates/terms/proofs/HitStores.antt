@@ -194,6 +194,7 @@ module _ (n : ℕ) (s : Side) (k : SideIs n s) (pm : List ℕ) (long : length pm
           dirty-through = λ j u d. stored-line j u d .1;
           one = g .cache .one;
         };
+        good = λ j x u e. g .good j x (was-valid j u) (e ∙ same j .frame);
         under = under′;
         words = staged-hit n (s .backing) (k .backing) pm long w v (byWord h) (byWord (withStore h va (l .address))) a (words-stored h va l w fits) (g .words);
         lines = staged-hit n (s .backing) (k .backing) pm long w v (byLine h) (byLine (withStore h va (l .address))) a (lines-stored h va l w fits) (g .lines);

@@ -10,27 +10,27 @@ use Rattle.values.specs.Empty.{emptyEntry, emptyLine}
 use Rattle.values.specs.declared.VirtualAddress.{VirtualAddress}
 use Rattle.values.specs.declared.Entry.{Entry}
 use Rattle.values.specs.declared.Line.{Line}
-use Rattle.bus.specs.Physical.{physical}
+use Rattle.bus.specs.Physical.{physical, isBad}
 use Rattle.walk.specs.Walk.{walk}
 use Rattle.walk.specs.Reads.{wordsRead}
 use Rattle.walk.specs.declared.Mapping.the-variants.{Found}
 use Rattle.tlb.specs.Tlb.{covers}
-use Rattle.buffer.specs.Buffer.{Backing, slotAt, masks}
-use Rattle.buffer.proofs.Below.{below}
+use Rattle.buffer.specs.Buffer.{Backing, slotAt}
+use Rattle.buffer.proofs.Below.{lands, below}
 use Rattle.cache.specs.Dcache.{Dcache, Side}
 use Rattle.soundness.specs.Soundness.{sound}
 use Rattle.soundness_test.specs.Formed.{Formed}
 use Rattle.plain.specs.Plain.{Plain}
 use Rattle.terms.specs.History.{Stage, History}
 use Rattle.terms.specs.Rules.{isStored, isFlushed, isDrained}
-use Rattle.machine.specs.Machine.{Machine, memoryOf}
+use Rattle.machine.specs.Machine.{Machine, memoryOf, badOf}
 
 -- ---- the write buffer and memory, with the plain machine's memory `pm`
 
--- byte x is the plain machine's in memory, and in every entry that masks it
+-- byte x is the plain machine's in memory, and in every entry of which it goes to memory
 pub record SettledAt (b : Backing) (pm : List ℕ) (x : ℕ) : Type 0 where
   pub in-memory : getD (b .memory) x 0 ≡ getD pm x 0
-  pub in-entries : (j : ℕ) → masks (slotAt (b .buffer) j) x ≡ true → getD (slotAt (b .buffer) j .bytes) (x % 16) 0 ≡ getD pm x 0
+  pub in-entries : (j : ℕ) → lands (b .bad) (slotAt (b .buffer) j) x ≡ true → getD (slotAt (b .buffer) j .bytes) (x % 16) 0 ≡ getD pm x 0
 
 -- by the stage of each byte: below the cache it is the plain machine's unless stored to and not cleaned since; it is settled once drained
 pub record Staged (b : Backing) (pm : List ℕ) (stage : ℕ → Stage) : Type 0 where
@@ -82,6 +82,8 @@ pub record CacheAgrees (c : Dcache) (pm : List ℕ) (reached : ℕ → ℕ → B
 
 pub record SideAgrees (s : Side) (pm : List ℕ) (h : History) : Type 0 where
   pub cache : CacheAgrees (s .cache) pm (h .reached) (h .through) (h .lineStage)
+  -- no word of a valid line is bad
+  pub good : (i x : ℕ) → at (s .cache .lines) i .valid ≡ true → x / 32 ≡ at (s .cache .lines) i .frame → isBad (s .backing .bad) (x / 4) ≡ false
   -- a byte that no line holds in a dirty half is the plain machine's below the cache
   pub under : (x : ℕ) → Undirty (s .cache .lines) x → below (s .backing) x ≡ getD pm x 0
   pub words : Staged (s .backing) pm (byWord h)
@@ -90,13 +92,13 @@ pub record SideAgrees (s : Side) (pm : List ℕ) (h : History) : Type 0 where
 -- ---- the TLB
 
 -- every word that the plain walk of an address reads has, since its last store, been cleaned, drained, and the TLB flushed
-abbrev pub Readable : List ℕ → ℕ → History → VirtualAddress → Type 0
-Readable pm base h va = all (λ (w : ℕ). isFlushed (h .wordStage w)) (wordsRead (physical pm) base va) ≡ true
+abbrev pub Readable : List ℕ → List ℕ → ℕ → History → VirtualAddress → Type 0
+Readable pm bad base h va = all (λ (w : ℕ). isFlushed (h .wordStage w)) (wordsRead (physical pm bad) base va) ≡ true
 
 -- an entry that covers an address is what the plain walk finds for it
-pub record TlbAgrees (entries : List Entry) (base : ℕ) (pm : List ℕ) (h : History) : Type 0 where
-  pub mapped : h .baseStale ≡ false → (i : ℕ) (va : VirtualAddress) → covers va (getD entries i emptyEntry) ≡ true → Readable pm base h va
-      → walk (physical pm) base va ≡ Found (getD entries i emptyEntry)
+pub record TlbAgrees (entries : List Entry) (base : ℕ) (pm bad : List ℕ) (h : History) : Type 0 where
+  pub mapped : h .baseStale ≡ false → (i : ℕ) (va : VirtualAddress) → covers va (getD entries i emptyEntry) ≡ true → Readable pm bad base h va
+      → walk (physical pm bad) base va ≡ Found (getD entries i emptyEntry)
 
 -- ---- the machines
 
@@ -107,5 +109,6 @@ pub record Agrees (m : Machine) (p : Plain) (h : History) : Type 0 where
   pub is-sound : sound m ≡ true
   pub size : m .size ≡ length (memoryOf m)
   pub long : length (memoryOf m) ≡ length (p .memory)
+  pub same-map : badOf m ≡ p .bad
   pub side : SideAgrees (m .side) (p .memory) h
-  pub tlb : TlbAgrees (m .entries) (p .registers .base) (p .memory) h
+  pub tlb : TlbAgrees (m .entries) (p .registers .base) (p .memory) (p .bad) h

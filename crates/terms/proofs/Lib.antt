@@ -1,3 +1,4 @@
+pub mod Judged
 pub mod Answers
 pub mod Callers
 pub mod Term1
@@ -38,5 +39,7 @@ pub mod BaseAt
 pub mod CleanedAt
 pub mod GroupAt
 pub mod Positions
+pub mod PlainKept
 pub mod Corollaries
+pub mod Document01
 pub mod Contracts

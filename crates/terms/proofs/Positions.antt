@@ -40,33 +40,33 @@ module _ (d : Call) where
   each-keeps [] p h f = tt
   each-keeps (c ∷ cs) p h f = (f 0 (omega arith), each-keeps cs (plainly p c .plain) (after p h c) (λ j b. f (suc j) (omega arith)))
 
-module _ (memory : List ℕ) (list : List Call) where
+module _ (memory bad : List ℕ) (list : List Call) where
   abbrev B : ℕ → Plain
-  B = at.before memory list
+  B = at.before memory bad list
 
   abbrev C : ℕ → Call
-  C = at.call memory list
+  C = at.call memory bad list
 
   abbrev H : ℕ → History
-  H = hist memory list
+  H = hist memory bad list
 
   abbrev n : ℕ
   n = length list
 
   abbrev served : ℕ → Bool
-  served = at.served memory list
+  served = at.served memory bad list
 
   -- ---- one call
 
   -- what the rules over positions ask of call j
   record At (j : ℕ) : Type 0 where
-    a2 : at.r2-physical memory list j ≡ true
-    b2 : at.r2-virtual memory list j ≡ true
-    a3 : at.r3 memory list j ≡ true
-    a4 : at.r4 memory list j ≡ true
-    a5 : at.r5 memory list j ≡ true
-    a6 : at.r6-inside memory list j ≡ true
-    b6 : at.r6-equal memory list j ≡ true
+    a2 : at.r2-physical memory bad list j ≡ true
+    b2 : at.r2-virtual memory bad list j ≡ true
+    a3 : at.r3 memory bad list j ≡ true
+    a4 : at.r4 memory bad list j ≡ true
+    a5 : at.r5 memory bad list j ≡ true
+    a6 : at.r6-inside memory bad list j ≡ true
+    b6 : at.r6-equal memory bad list j ≡ true
 
   -- all calls up to j keep them: call j is allowed
   allowed-at : (j : ℕ) → ((f : ℕ) → f ≤ j → At f) → served j ≡ true → Tests (B j) (H j) (C j)
@@ -74,31 +74,31 @@ module _ (memory : List ℕ) (list : List Call) where
   allowed-at j all s =
       let k = all j (omega arith) in
       record {
-        t2 = λ v q e t. r2-steps memory list j (k .a2) (k .b2) v q (rw (s, e)) t;
-        t3 = λ l e. r3-steps memory list j (λ f b. all f b .a3) l (rw (s, ← through-at memory list l j) e);
-        t4 = λ w e t. r4-steps memory list j (k .a4) w (rw (s, e)) t;
-        t5 = λ e. r5-steps memory list j (λ f b. all f b .a5) (rw (s, e));
-        t6 = λ e. large-of (B j) (H j) (C j) (given-means (at.translates memory list j) _ (k .a6) (rw (s, e)))
-            (given-means (at.translates memory list j) _ (k .b6) (rw (s, e)));
+        t2 = λ v q e t. r2-steps memory bad list j (k .a2) (k .b2) v q (rw (s, e)) t;
+        t3 = λ l e. r3-steps memory bad list j (λ f b. all f b .a3) l (rw (s, ← through-at memory bad list l j) e);
+        t4 = λ w e t. r4-steps memory bad list j (k .a4) w (rw (s, e)) t;
+        t5 = λ e. r5-steps memory bad list j (λ f b. all f b .a5) (rw (s, e));
+        t6 = λ e. large-of (B j) (H j) (C j) (given-means (at.translates memory bad list j) _ (k .a6) (rw (s, e)))
+            (given-means (at.translates memory bad list j) _ (k .b6) (rw (s, e)));
       }
 
   -- and a call that is allowed, where it is served, keeps them
   at-allowed : (j : ℕ) → (served j ≡ true → Tests (B j) (H j) (C j)) → At j
   unfolding at.reaches at.virtualAt at.addressAt at.translates at.readsWord at.covers at.ofGroup
   at-allowed j f =
-      let reached : (v q : ℕ) → at.reaches memory list j ≡ true → H j .reached v q ≡ true → Matches memory list j v q =
+      let reached : (v q : ℕ) → at.reaches memory bad list j ≡ true → H j .reached v q ≡ true → Matches memory bad list j v q =
       λ v q e t. f (and-left (served j) _ e) .t2 v q (and-right (served j) _ e) t in
-      let large : at.translates memory list j ≡ true
+      let large : at.translates memory bad list j ≡ true
       → (groupOf (B j) (H j) (inside (B j) (H j)) (C j) ≡ true) × (groupOf (B j) (H j) (equal (B j) (H j)) (C j) ≡ true) =
       λ e. of-large (B j) (H j) (C j) (f (and-left (served j) _ e) .t6 (and-right (served j) _ e)) in
       record {
-        a2 = steps-physical memory list j reached;
-        b2 = steps-virtual memory list j reached;
-        a3 = steps-r3 memory list j (λ l e. f (and-left (served j) _ e) .t3 l (rw (through-at memory list l j) (and-right (served j) _ e)));
-        a4 = steps-r4 memory list j (λ w e t. f (and-left (served j) _ e) .t4 w (and-right (served j) _ e) t);
-        a5 = steps-r5 memory list j (λ e. f (and-left (served j) _ e) .t5 (and-right (served j) _ e));
-        a6 = given-true (at.translates memory list j) _ (λ e. large e .0);
-        b6 = given-true (at.translates memory list j) _ (λ e. large e .1);
+        a2 = steps-physical memory bad list j reached;
+        b2 = steps-virtual memory bad list j reached;
+        a3 = steps-r3 memory bad list j (λ l e. f (and-left (served j) _ e) .t3 l (rw (through-at memory bad list l j) (and-right (served j) _ e)));
+        a4 = steps-r4 memory bad list j (λ w e t. f (and-left (served j) _ e) .t4 w (and-right (served j) _ e) t);
+        a5 = steps-r5 memory bad list j (λ e. f (and-left (served j) _ e) .t5 (and-right (served j) _ e));
+        a6 = given-true (at.translates memory bad list j) _ (λ e. large e .0);
+        b6 = given-true (at.translates memory bad list j) _ (λ e. large e .1);
       }
 
   -- ---- the list
@@ -119,39 +119,39 @@ module _ (memory : List ℕ) (list : List Call) where
   abbrev Steps : Type 0
   Steps = (j : ℕ) → j < n → Allowed (B j) (H j) (C j)
 
-  steps-of : Keeps (plainStart memory) noHistory list → Steps
+  steps-of : Keeps (plainStart memory bad) noHistory list → Steps
   unfolding hist
-  steps-of k j b = keeps-each at.pastEnd list (plainStart memory) noHistory k j b
+  steps-of k j b = keeps-each at.pastEnd list (plainStart memory bad) noHistory k j b
 
-  of-steps : Steps → Keeps (plainStart memory) noHistory list
+  of-steps : Steps → Keeps (plainStart memory bad) noHistory list
   unfolding hist
-  of-steps f = each-keeps at.pastEnd list (plainStart memory) noHistory f
+  of-steps f = each-keeps at.pastEnd list (plainStart memory bad) noHistory f
 
   -- every rule at every position, also behind the end, where no call is served
-  kept : Keeps (plainStart memory) noHistory list → (j : ℕ) → At j
+  kept : Keeps (plainStart memory bad) noHistory list → (j : ℕ) → At j
   kept k j = at-allowed j (λ s. tests-of (B j) (H j) (C j) (steps-of k j (served-below j s) (served-not j s)))
 
-  keeps-rules : Keeps (plainStart memory) noHistory list → at.keepsRules memory list ≡ true
+  keeps-rules : Keeps (plainStart memory bad) noHistory list → at.keepsRules memory bad list ≡ true
   unfolding at.keepsRules
   keeps-rules k =
       rw (
-        each-true (at.r2-physical memory list) n (λ j b. kept k j .a2),
-        each-true (at.r2-virtual memory list) n (λ j b. kept k j .b2),
-        each-true (at.r3 memory list) n (λ j b. kept k j .a3),
-        each-true (at.r4 memory list) n (λ j b. kept k j .a4),
-        each-true (at.r5 memory list) n (λ j b. kept k j .a5),
-        each-true (at.r6-inside memory list) n (λ j b. kept k j .a6),
-        each-true (at.r6-equal memory list) n (λ j b. kept k j .b6),
+        each-true (at.r2-physical memory bad list) n (λ j b. kept k j .a2),
+        each-true (at.r2-virtual memory bad list) n (λ j b. kept k j .b2),
+        each-true (at.r3 memory bad list) n (λ j b. kept k j .a3),
+        each-true (at.r4 memory bad list) n (λ j b. kept k j .a4),
+        each-true (at.r5 memory bad list) n (λ j b. kept k j .a5),
+        each-true (at.r6-inside memory bad list) n (λ j b. kept k j .a6),
+        each-true (at.r6-equal memory bad list) n (λ j b. kept k j .b6),
       )
 
-  rules-keep : at.keepsRules memory list ≡ true → Keeps (plainStart memory) noHistory list
+  rules-keep : at.keepsRules memory bad list ≡ true → Keeps (plainStart memory bad) noHistory list
   unfolding at.keepsRules
   rules-keep e =
-      let e2 = and-right (at.throughout memory list (at.r2-physical memory list)) _ e in
-      let e3 = and-right (at.throughout memory list (at.r2-virtual memory list)) _ e2 in
-      let e4 = and-right (at.throughout memory list (at.r3 memory list)) _ e3 in
-      let e5 = and-right (at.throughout memory list (at.r4 memory list)) _ e4 in
-      let e6 = and-right (at.throughout memory list (at.r5 memory list)) _ e5 in
+      let e2 = and-right (at.throughout memory bad list (at.r2-physical memory bad list)) _ e in
+      let e3 = and-right (at.throughout memory bad list (at.r2-virtual memory bad list)) _ e2 in
+      let e4 = and-right (at.throughout memory bad list (at.r3 memory bad list)) _ e3 in
+      let e5 = and-right (at.throughout memory bad list (at.r4 memory bad list)) _ e4 in
+      let e6 = and-right (at.throughout memory bad list (at.r5 memory bad list)) _ e5 in
       let all : (f : ℕ) → f < n → At f =
       λ f b.
       record {
@@ -161,7 +161,7 @@ module _ (memory : List ℕ) (list : List Call) where
         a4 = each-means _ n (and-left _ _ e4) f b;
         a5 = each-means _ n (and-left _ _ e5) f b;
         a6 = each-means _ n (and-left _ _ e6) f b;
-        b6 = each-means _ n (and-right (at.throughout memory list (at.r6-inside memory list)) _ e6) f b;
+        b6 = each-means _ n (and-right (at.throughout memory bad list (at.r6-inside memory bad list)) _ e6) f b;
       }
       in
       of-steps (λ j b z. of-tests (B j) (H j) (C j) (allowed-at j (λ f h. all f (omega arith)) (call-served j b z)))
@@ -169,48 +169,50 @@ module _ (memory : List ℕ) (list : List Call) where
   -- ---- the end
 
   abbrev last : History
-  last = historyAfter (plainStart memory) noHistory list
+  last = historyAfter (plainStart memory bad) noHistory list
 
-  line-ends : (l : ℕ) → isDrained (last .lineStage l) ≡ true → at.settledLine memory list l ≡ true
-  line-ends l e = line-settled memory list l (ap (λ (h : History). isDrained (h .lineStage l)) (hist-all memory list) ∙ e)
+  line-ends : (l : ℕ) → isDrained (last .lineStage l) ≡ true → at.settledLine memory bad list l ≡ true
+  line-ends l e = line-settled memory bad list l (ap (λ (h : History). isDrained (h .lineStage l)) (hist-all memory bad list) ∙ e)
 
-  ends-line : (l : ℕ) → at.settledLine memory list l ≡ true → isDrained (last .lineStage l) ≡ true
-  ends-line l e = ap (λ (h : History). isDrained (h .lineStage l)) (sym (hist-all memory list)) ∙ settled-line memory list l e
+  ends-line : (l : ℕ) → at.settledLine memory bad list l ≡ true → isDrained (last .lineStage l) ≡ true
+  ends-line l e = ap (λ (h : History). isDrained (h .lineStage l)) (sym (hist-all memory bad list)) ∙ settled-line memory bad list l e
 
   -- a line is settled where every line stored to is
-  any-line : at.settled memory list ≡ true → (l : ℕ) → at.settledLine memory list l ≡ true
+  any-line : at.settled memory bad list ≡ true → (l : ℕ) → at.settledLine memory bad list l ≡ true
   unfolding at.allSettledBy at.settledBy
   any-line e l =
       each-true _ n
       (λ i b.
-      given-true (at.storesLine memory list l i && at.lastToLine memory list i n) (at.drainedSince memory list i n)
+      given-true (at.storesLine memory bad list l i && at.lastToLine memory bad list i n) (at.drainedSince memory bad list i n)
       (λ t.
-      let s = and-left (at.storesLine memory list l i) (at.lastToLine memory list i n) t in
-      let m = and-right (at.storesLine memory list l i) (at.lastToLine memory list i n) t in
-      let x = and-left (at.stores memory list i) (eqb l (at.lineAt memory list i)) s in
-      let own : at.storesLine memory list (at.lineAt memory list i) i ≡ true = rw (x, eq-eqb (at.lineAt memory list i) (at.lineAt memory list i) refl) in
-      given-means (at.storesLine memory list (at.lineAt memory list i) i && at.lastToLine memory list i n) (at.drainedSince memory list i n)
-      (each-means _ n (given-means (at.stores memory list i) _ (each-means _ n e i b) x) i b)
-      (and-both (at.storesLine memory list (at.lineAt memory list i) i) (at.lastToLine memory list i n) own m)))
+      let s = and-left (at.storesLine memory bad list l i) (at.lastToLine memory bad list i n) t in
+      let m = and-right (at.storesLine memory bad list l i) (at.lastToLine memory bad list i n) t in
+      let x = and-left (at.stores memory bad list i) (eqb l (at.lineAt memory bad list i)) s in
+      let own : at.storesLine memory bad list (at.lineAt memory bad list i) i
+      ≡ true = rw (x, eq-eqb (at.lineAt memory bad list i) (at.lineAt memory bad list i) refl) in
+      given-means (at.storesLine memory bad list (at.lineAt memory bad list i) i && at.lastToLine memory bad list i n) (at.drainedSince memory bad list i n)
+      (each-means _ n (given-means (at.stores memory bad list i) _ (each-means _ n e i b) x) i b)
+      (and-both (at.storesLine memory bad list (at.lineAt memory bad list i) i) (at.lastToLine memory bad list i n) own m)))
 
-  all-ends : Settled last → at.settled memory list ≡ true
+  all-ends : Settled last → at.settled memory bad list ≡ true
   unfolding at.allSettledBy
-  all-ends f = each-true _ n (λ i b. given-true (at.stores memory list i) _ (λ s. line-ends (at.lineAt memory list i) (f (at.lineAt memory list i))))
+  all-ends f = each-true _ n (λ i b. given-true (at.stores memory bad list i) _
+      (λ s. line-ends (at.lineAt memory bad list i) (f (at.lineAt memory bad list i))))
 
 pub same-rules : SameRules
-same-rules memory list =
+same-rules memory bad list =
     record {
-      rules = (keeps-rules memory list, rules-keep memory list);
-      line = λ l. (line-ends memory list l, ends-line memory list l);
-      all-lines = (all-ends memory list, λ e l. ends-line memory list l (any-line memory list e l));
+      rules = (keeps-rules memory bad list, rules-keep memory bad list);
+      line = λ l. (line-ends memory bad list l, ends-line memory bad list l);
+      all-lines = (all-ends memory bad list, λ e l. ends-line memory bad list l (any-line memory bad list e l));
     }
 
 -- ---- term 3 as it may be printed
 
 pub term3-printed : Term3Printed
-term3-printed memory store calls r =
-    let s = same-rules memory calls in
-    let t = term3 memory store calls
+term3-printed memory bad store calls r =
+    let s = same-rules memory bad calls in
+    let t = term3 memory bad store calls
     (record {
       memory-bytes = r .memory-bytes;
       store-bytes = r .store-bytes;

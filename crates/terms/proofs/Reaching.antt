@@ -63,6 +63,7 @@ module _ (h : History) (va : VirtualAddress) (l : Place) where
           dirty-through = g .cache .dirty-through;
           one = also-one (g .cache .one) r;
         };
+        good = g .good;
         under = g .under;
         words = g .words;
         lines = g .lines;

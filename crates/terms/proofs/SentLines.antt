@@ -48,7 +48,7 @@ module _ (n : ℕ) (s : Side) (k : SideIs n s) (pm : List ℕ) (h : History) (g 
   sent-below x o =
       case (l .valid)
       (λ v.
-      below-sent n (s .backing) (k .backing) l (s .cache .store) (j * 32) (k .cache .store-bytes) (k .cache .lines j .inside v) fits x
+      below-sent n (s .backing) (k .backing) l (s .cache .store) (j * 32) (k .cache .store-bytes) (k .cache .lines j .inside v) fits (λ y e. g .good j y v e) x
       ∙ case (eqb (x / 32) (l .frame) && dirtyAt l x)
       (λ t. rw t (line-byte x v (eqb-true (x / 32) (l .frame) (and-left (eqb (x / 32) (l .frame)) (dirtyAt l x) t))))
       (λ t.
@@ -75,6 +75,7 @@ module _ (n : ℕ) (s : Side) (k : SideIs n s) (pm : List ℕ) (h : History) (g 
   sent-staged stage q =
       case (l .valid)
       (λ v.
-      staged-sent n (s .backing) (k .backing) l (s .cache .store) (j * 32) (k .cache .store-bytes) (k .cache .lines j .inside v) fits pm stage
+      staged-sent n (s .backing) (k .backing) l (s .cache .store) (j * 32) (k .cache .store-bytes) (k .cache .lines j .inside v) fits
+      (λ y e. g .good j y v e) pm stage
       (λ x e. line-byte x v e) q)
       (λ v. subst (λ (b : Backing). Staged b pm stage) (sym (nothing-sent v)) q)

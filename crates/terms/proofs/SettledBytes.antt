@@ -1,7 +1,7 @@
 -- Settled bytes stay settled when entries leave and enter; and what lies below the cache then, by the places of the backing.
 use Prim.Native.Nat.{ℕ, zero, suc, _+_, _-_, _*_, _/_, _%_, _<_, _≤_}
 use native.Mathlib.Omega.{arith}
-use mathlib.Core.Bool.{true, false, cond}
+use mathlib.Core.Bool.{true, false, cond, not}
 use mathlib.Core.Path.{_≡_, refl, sym, _∙_, ap, subst}
 use mathlib.Core.List.{List, [], _∷_}
 use lib.Bits.{bitOr}
@@ -17,13 +17,14 @@ use Rattle.values.specs.declared.Slot.{Slot}
 use Rattle.values.specs.declared.Search.{Search}
 use Rattle.values.specs.declared.Search.the-variants.{At, Nothing}
 use Rattle.values.proofs.Anys.{any-means}
-use Rattle.values.proofs.Cases.{case, clash, and-left, and-right, and-both, or-cases, or-none}
+use Rattle.values.proofs.Cases.{case, clash, and-left, and-right, and-both, and-no, or-cases, or-none}
 use Rattle.words.specs.Words.{stored}
+use Rattle.bus.specs.Physical.{isBad}
 use Rattle.words.proofs.Laws.{byte-before, byte-behind}
 use Rattle.buffer.specs.Buffer.{Backing, slotAt, oldestLeft, drained, behind, pushed, halfPushed, newestOf, maskOf, joined, newSlot, storedAt}
 use Rattle.buffer.specs.Buffer.{buffered, masks, meets, holds}
 use Rattle.buffer.proofs.Joining.{newest-below}
-use Rattle.buffer.proofs.Below.{over, below, laid-slot, empty-masks, Behind, Good, drained-below, drained-memory}
+use Rattle.buffer.proofs.Below.{lands, over, below, laid-slot, bad-lands, unmasked-lands, lands-masks, empty-masks, Behind, Good, drained-below, drained-memory}
 use Rattle.buffer.proofs.Lengths.{memory-behind, slot-oldest, used-oldest, slot-drained, slot-behind, slot-other}
 use Rattle.buffer.proofs.StoredBelow.{or-bit, mask-before, mask-in, mask-behind, laidOver, as-stored, newest-block, over-away, half-below, buffered-below}
 use Rattle.soundness_laws.proofs.BackingKept.{BackingIs, oldest-kept}
@@ -65,16 +66,16 @@ module _ (n : ℕ) (b : Backing) (k : BackingIs n b) where
 
 -- ---- what lies below the cache
 
--- entries over a byte, when each that masks it holds the same
-over-same : (l : List Slot) (x y v : ℕ) → y ≡ v → ((j : ℕ) → masks (getD l j emptySlot) x ≡ true → getD (getD l j emptySlot .bytes) (x % 16) 0 ≡ v)
-    → over l x y ≡ v
+-- entries over a byte, when each of which it goes to memory holds the same
+over-same : (bad : List ℕ) (l : List Slot) (x y v : ℕ) → y ≡ v
+    → ((j : ℕ) → lands bad (getD l j emptySlot) x ≡ true → getD (getD l j emptySlot .bytes) (x % 16) 0 ≡ v) → over bad l x y ≡ v
 unfolding over
-over-same [] x y v e f = e
-over-same (s ∷ ss) x y v e f =
-    over-same ss x (cond (masks s x) (getD (s .bytes) (x % 16) 0) y) v (case (masks s x) (λ t. rw t (f 0 t)) (λ t. rw t e)) (λ j. f (suc j))
+over-same bad [] x y v e f = e
+over-same bad (s ∷ ss) x y v e f =
+    over-same bad ss x (cond (lands bad s x) (getD (s .bytes) (x % 16) 0) y) v (case (lands bad s x) (λ t. rw t (f 0 t)) (λ t. rw t e)) (λ j. f (suc j))
 
 pub settled-over : (b : Backing) (pm : List ℕ) (x : ℕ) → SettledAt b pm x → below b x ≡ getD pm x 0
-settled-over b pm x s = over-same (b .buffer .slots) x (getD (b .memory) x 0) (getD pm x 0) (s .in-memory) (s .in-entries)
+settled-over b pm x s = over-same (b .bad) (b .buffer .slots) x (getD (b .memory) x 0) (getD pm x 0) (s .in-memory) (s .in-entries)
 
 -- the plain machine's memory may change elsewhere
 pub settled-same : (b : Backing) (pm qm : List ℕ) (x : ℕ) → getD pm x 0 ≡ getD qm x 0 → SettledAt b pm x → SettledAt b qm x
@@ -90,8 +91,10 @@ module _ (n : ℕ) (b : Backing) (k : BackingIs n b) where
   drained-byte x = drained-memory b (good n b k) (omega (arith, k .shape .places, k .shape .low)) (rest n b k) x
 
   -- no place masks a byte
-  pub drained-none : (j x : ℕ) → masks (slotAt (drained b .buffer) j) x ≡ false
-  drained-none j x = ap (λ (s : Slot). masks s x) (slot-drained b j) ∙ empty-place n b k (b .buffer .used + j) x (omega arith)
+  pub drained-none : (j x : ℕ) → lands (drained b .bad) (slotAt (drained b .buffer) j) x ≡ false
+  drained-none j x =
+      unmasked-lands (drained b .bad) (slotAt (drained b .buffer) j) x
+      (ap (λ (s : Slot). masks s x) (slot-drained b j) ∙ empty-place n b k (b .buffer .used + j) x (omega arith))
 
 -- ---- a read that no entry meets
 
@@ -116,7 +119,7 @@ unmet-below n b k a c x e h l =
     let ss = b .buffer .slots in
     let long : length (take u ss) ≡ u = length-take-le u ss (omega (arith, k .shape .places, k .shape .low)) in
     sym
-    (over-away ss x (getD (b .memory) x 0)
+    (over-away (b .bad) ss x (getD (b .memory) x 0)
     (λ j g.
     case (ltb j u)
     (λ t.
@@ -134,15 +137,16 @@ module _ (n : ℕ) (b : Backing) (k : BackingIs n b) (pm : List ℕ) (x : ℕ) (
       let o = slotAt (b .buffer) 0 in
       record {
         in-memory =
-            laid-slot o (b .memory) x (k .shape .sixteen 0) (let e = k .memory-long in let i = k .entries 0 h .sound .inside in omega arith)
-            ∙ case (masks o x) (λ t. rw t (s .in-entries 0 t)) (λ t. rw t (s .in-memory));
+            laid-slot (b .bad) o (b .memory) x (k .shape .sixteen 0) (let e = k .memory-long in let i = k .entries 0 h .sound .inside in omega arith)
+            ∙ case (lands (b .bad) o x) (λ t. rw t (s .in-entries 0 t)) (λ t. rw t (s .in-memory));
         in-entries = λ j t.
             ap (λ (r : Slot). getD (r .bytes) (x % 16) 0) (slot-oldest b j)
-            ∙ s .in-entries (suc j) (ap (λ (r : Slot). masks r x) (sym (slot-oldest b j)) ∙ t);
+            ∙ s .in-entries (suc j) (ap (λ (r : Slot). lands (b .bad) r x) (sym (slot-oldest b j)) ∙ t);
       }
 
-  module _ (new : Slot) (f : masks new x ≡ true → getD (new .bytes) (x % 16) 0 ≡ getD pm x 0) where
+  module _ (new : Slot) (f : lands (b .bad) new x ≡ true → getD (new .bytes) (x % 16) 0 ≡ getD pm x 0) where
     settled-behind : b .buffer .used < 8 → SettledAt (behind b new) pm x
+    unfolding behind
     settled-behind h =
         let u = b .buffer .used in
         record {
@@ -152,15 +156,15 @@ module _ (n : ℕ) (b : Backing) (k : BackingIs n b) (pm : List ℕ) (x : ℕ) (
               (λ v.
               let e : slotAt (behind b new .buffer) j ≡ new =
               ap (slotAt (behind b new .buffer)) (eqb-true j u v) ∙ slot-behind b new (omega (arith, k .shape .places)) in
-              ap (λ (r : Slot). getD (r .bytes) (x % 16) 0) e ∙ f (ap (λ (r : Slot). masks r x) (sym e) ∙ t))
+              ap (λ (r : Slot). getD (r .bytes) (x % 16) 0) e ∙ f (ap (λ (r : Slot). lands (b .bad) r x) (sym e) ∙ t))
               (λ v.
               let e : slotAt (behind b new .buffer) j ≡ slotAt (b .buffer) j = slot-other b new j (eqb-false j u v) in
-              ap (λ (r : Slot). getD (r .bytes) (x % 16) 0) e ∙ s .in-entries j (ap (λ (r : Slot). masks r x) (sym e) ∙ t));
+              ap (λ (r : Slot). getD (r .bytes) (x % 16) 0) e ∙ s .in-entries j (ap (λ (r : Slot). lands (b .bad) r x) (sym e) ∙ t));
         }
 
 settled-pushed : (n : ℕ) (b : Backing) (k : BackingIs n b) (pm : List ℕ) (x : ℕ) → SettledAt b pm x → (new : Slot)
-    → (masks new x ≡ true → getD (new .bytes) (x % 16) 0 ≡ getD pm x 0) → SettledAt (pushed b new) pm x
-unfolding pushed
+    → (lands (b .bad) new x ≡ true → getD (new .bytes) (x % 16) 0 ≡ getD pm x 0) → SettledAt (pushed b new) pm x
+unfolding pushed oldestLeft
 settled-pushed n b k pm x s new f =
     let u = used-oldest b in
     let l = k .shape .low in
@@ -173,15 +177,18 @@ settled-pushed n b k pm x s new f =
 -- ---- a half pushed
 
 module _ (n : ℕ) (b : Backing) (k : BackingIs n b) (block : ℕ) (bytes : List ℕ) where
-  pub half-over : (x : ℕ) → below (halfPushed b block bytes) x ≡ cond (eqb (x / 16) block) (getD bytes (x % 16) 0) (below b x)
-  half-over x = half-below (b .memory) (b .buffer .slots) (b .buffer .used) (k .shape .places) (k .shape .low) (rest n b k) (good n b k) block bytes x
+  pub half-over : (x : ℕ) → (x / 16 ≡ block → isBad (b .bad) (x / 4) ≡ false)
+      → below (halfPushed b block bytes) x ≡ cond (eqb (x / 16) block) (getD bytes (x % 16) 0) (below b x)
+  half-over x =
+      half-below (b .memory) (b .bad) (b .buffer .slots) (b .buffer .used) (k .shape .places) (k .shape .low) (rest n b k) (good n b k) block bytes x
 
   pub settled-half : (pm : List ℕ) (x : ℕ) → (x / 16 ≡ block → getD bytes (x % 16) 0 ≡ getD pm x 0) → SettledAt b pm x
       → SettledAt (halfPushed b block bytes) pm x
   unfolding halfPushed
   settled-half pm x h s =
-      settled-pushed n b k pm x s (record { block = block; mask = 0xFFFF; bytes = bytes })
-      (λ t. h (eqb-true (x / 16) block (and-left (eqb (x / 16) block) (bit 0xFFFF (x % 16)) t)))
+      let new : Slot = record { block = block; mask = 0xFFFF; bytes = bytes } in
+      settled-pushed n b k pm x s new
+      (λ t. h (eqb-true (x / 16) block (and-left (eqb (x / 16) block) (bit 0xFFFF (x % 16)) (lands-masks (b .bad) new x t))))
 
 -- ---- a store buffered
 
@@ -240,20 +247,22 @@ module _ (a w v : ℕ) (fits : a % 16 + w ≤ 16) (x : ℕ) where
         let e : x / 16 ≡ a / 16 = eqb-true (x / 16) (s .block) here ∙ same in
         outside-stored w (s .bytes) (a % 16) v (x % 16) (λ h l. o (omega arith) (omega arith))
 
+-- a byte that the store does not bring to memory, because it lies outside the store or in a bad word
 pub settled-buffered : (n : ℕ) (b : Backing) (k : BackingIs n b) (pm : List ℕ) (pa : PhysicalAddress) (w v x : ℕ) → pa .0 % 16 + w ≤ 16
-    → Outside (pa .0) w x → SettledAt b pm x → SettledAt (buffered b pa w v) pm x
+    → lands (b .bad) (newSlot (blockOf pa) w (pa .0 % 16) v) x ≡ false → SettledAt b pm x → SettledAt (buffered b pa w v) pm x
 unfolding buffered
 settled-buffered n b k pm pa w v x fits o s = by (newestOf (b .buffer .slots) (blockOf pa) (b .buffer .used)) refl
   where
     by : (y : Search) → newestOf (b .buffer .slots) (blockOf pa) (b .buffer .used) ≡ y → SettledAt (storedAt b (blockOf pa) w (pa .0 % 16) v y) pm x
     by Nothing e =
-        settled-pushed n b k pm x s (newSlot (blockOf pa) w (pa .0 % 16) v) (λ t. clash t (new-outside (pa .0) w v fits x o))
+        settled-pushed n b k pm x s (newSlot (blockOf pa) w (pa .0 % 16) v) (λ t. clash t o)
     by (At i) e =
         let l = b .buffer .slots in
         let old = slotAt (b .buffer) i in
         let new = joined old w (pa .0 % 16) v in
         let low = newest-below l (blockOf pa) (b .buffer .used) i e in
         let same : old .block ≡ blockOf pa = newest-block l (blockOf pa) (b .buffer .used) i e in
+        let is-good = not (isBad (b .bad) (x / 4)) in
         record {
           in-memory = s .in-memory;
           in-entries = λ j t.
@@ -262,28 +271,61 @@ settled-buffered n b k pm pa w v x fits o s = by (newestOf (b .buffer .slots) (b
               let q : getD (set l i new) j emptySlot ≡ new =
               ap (λ (y : ℕ). getD (set l i new) y emptySlot) (eqb-true j i u)
               ∙ getD-set-same l i new emptySlot (omega (arith, k .shape .places, k .shape .low)) in
-              let m : masks new x ≡ true = ap (λ (r : Slot). masks r x) (sym q) ∙ t in
-              ap (λ (r : Slot). getD (r .bytes) (x % 16) 0) q ∙ joined-byte (pa .0) w v fits x old same o m
-              ∙ s .in-entries i (joined-masks (pa .0) w v fits x old same o m))
+              let m : lands (b .bad) new x ≡ true = ap (λ (r : Slot). lands (b .bad) r x) (sym q) ∙ t in
+              let g : is-good ≡ true = and-left is-good (masks new x) m in
+              let out : Outside (pa .0) w x =
+              new-inside (pa .0) w v fits x (and-no is-good (masks (newSlot (blockOf pa) w (pa .0 % 16) v) x) g o) in
+              ap (λ (r : Slot). getD (r .bytes) (x % 16) 0) q
+              ∙ joined-byte (pa .0) w v fits x old same out (lands-masks (b .bad) new x m)
+              ∙ s .in-entries i (and-both is-good (masks old x) g (joined-masks (pa .0) w v fits x old same out (lands-masks (b .bad) new x m))))
               (λ u.
               let q : getD (set l i new) j emptySlot ≡ slotAt (b .buffer) j = getD-set-other l i j new emptySlot (eqb-false j i u) in
-              ap (λ (r : Slot). getD (r .bytes) (x % 16) 0) q ∙ s .in-entries j (ap (λ (r : Slot). masks r x) (sym q) ∙ t));
+              ap (λ (r : Slot). getD (r .bytes) (x % 16) 0) q ∙ s .in-entries j (ap (λ (r : Slot). lands (b .bad) r x) (sym q) ∙ t));
         }
 
+-- a byte outside a store
+pub outside-lands : (bad : List ℕ) (pa : PhysicalAddress) (w v x : ℕ) → pa .0 % 16 + w ≤ 16 → Outside (pa .0) w x
+    → lands bad (newSlot (blockOf pa) w (pa .0 % 16) v) x ≡ false
+outside-lands bad pa w v x fits o = unmasked-lands bad (newSlot (blockOf pa) w (pa .0 % 16) v) x (new-outside (pa .0) w v fits x o)
+
+-- a store to a bad word brings no byte to memory
+pub bad-store-lands : (bad : List ℕ) (pa : PhysicalAddress) (w v x : ℕ) → pa .0 % 4 + w ≤ 4 → isBad bad (pa .0 / 4) ≡ true
+    → lands bad (newSlot (blockOf pa) w (pa .0 % 16) v) x ≡ false
+bad-store-lands bad pa w v x fits g =
+    let new = newSlot (blockOf pa) w (pa .0 % 16) v in
+    case (masks new x)
+    (λ t.
+    case (isBad bad (x / 4))
+    (λ u. bad-lands bad new x u)
+    (λ u. let e : x / 4 ≡ pa .0 / 4 = in-word t in clash (ap (isBad bad) e ∙ g) u))
+    (λ t. unmasked-lands bad new x t)
+  where
+    in-word : masks (newSlot (blockOf pa) w (pa .0 % 16) v) x ≡ true → x / 4 ≡ pa .0 / 4
+    in-word t =
+        case (ltb x (pa .0))
+        (λ u. clash t (new-outside (pa .0) w v (omega arith) x (λ h l. let q = ltb-true x (pa .0) u in omega arith)))
+        (λ u.
+        case (ltb x (pa .0 + w))
+        (λ r. let q = ltb-false x (pa .0) u in let z = ltb-true x (pa .0 + w) r in omega arith)
+        (λ r. clash t (new-outside (pa .0) w v (omega arith) x (λ h l. let q = ltb-false x (pa .0 + w) r in omega arith))))
+
 pub buffered-over : (n : ℕ) (b : Backing) (k : BackingIs n b) (pa : PhysicalAddress) (w v x : ℕ) → pa .0 % 16 + w ≤ 16
-    → below (buffered b pa w v) x ≡ laidOver (newSlot (blockOf pa) w (pa .0 % 16) v) x (below b x)
+    → below (buffered b pa w v) x ≡ laidOver (b .bad) (newSlot (blockOf pa) w (pa .0 % 16) v) x (below b x)
 buffered-over n b k pa w v x fits =
-    buffered-below (b .memory) (b .buffer .slots) (b .buffer .used) (k .shape .places) (k .shape .low) (rest n b k) (good n b k) pa w v x fits
+    buffered-below (b .memory) (b .bad) (b .buffer .slots) (b .buffer .used) (k .shape .places) (k .shape .low) (rest n b k) (good n b k) pa w v x fits
 
 -- over what lies below the cache, a new entry of a store gives what the store to the plain machine's memory gives
-pub new-stored : (pm : List ℕ) (a w v x y : ℕ) → a % 16 + w ≤ 16 → a + w ≤ length pm → (Outside a w x → y ≡ getD pm x 0)
-    → laidOver (newSlot (a / 16) w (a % 16) v) x y ≡ getD (stored w pm a v) x 0
-new-stored pm a w v x y fits long h =
+pub new-stored : (bad pm : List ℕ) (a w v x y : ℕ) → a % 16 + w ≤ 16 → a + w ≤ length pm → (a ≤ x → x < a + w → isBad bad (x / 4) ≡ false)
+    → (Outside a w x → y ≡ getD pm x 0) → laidOver bad (newSlot (a / 16) w (a % 16) v) x y ≡ getD (stored w pm a v) x 0
+new-stored bad pm a w v x y fits long good h =
     let s = newSlot (a / 16) w (a % 16) v in
     case (masks s x)
-    (λ t. same s y (getD pm x 0) t)
-    (λ t. ap (λ (z : ℕ). laidOver s x z) (h (new-inside a w v fits x t)))
-    ∙ as-stored pm a w v x fits long
+    (λ t.
+    case (isBad bad (x / 4))
+    (λ u. let o : Outside a w x = λ p q. clash u (good p q) in clash t (new-outside a w v fits x o))
+    (λ u. same s y (getD pm x 0) (rw (u, t))))
+    (λ t. ap (λ (z : ℕ). laidOver bad s x z) (h (new-inside a w v fits x t)))
+    ∙ as-stored bad pm a w v x fits long good
   where
-    same : (s : Slot) (y z : ℕ) → masks s x ≡ true → laidOver s x y ≡ laidOver s x z
+    same : (s : Slot) (y z : ℕ) → lands bad s x ≡ true → laidOver bad s x y ≡ laidOver bad s x z
     same s y z t = rw t

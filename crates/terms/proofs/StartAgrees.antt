@@ -10,8 +10,8 @@ use Rattle.values.specs.declared.Line.{Line}
 use Rattle.values.proofs.Cases.{clash}
 use Rattle.words.specs.Words.{Bytes}
 use Rattle.tlb.specs.Tlb.{flushed}
-use Rattle.buffer.specs.Buffer.{Backing, backingFrom, emptyBuffer, masks}
-use Rattle.buffer.proofs.Below.{below, over-empties, empty-masks}
+use Rattle.buffer.specs.Buffer.{Backing, backingFrom, emptyBuffer, slotAt, masks}
+use Rattle.buffer.proofs.Below.{below, unmasked-lands, over-empties, empty-masks}
 use Rattle.machine.specs.Machine.{fresh}
 use Rattle.soundness_laws.proofs.Elements.{same-at}
 use Rattle.step.specs.Meets.{startRefusal}
@@ -22,9 +22,9 @@ use Rattle.terms.specs.History.{Stage, noHistory}
 use Rattle.terms.proofs.Invariant.{at, SettledAt, Staged, SideAgrees, TlbAgrees, Agrees}
 use Rattle.terms.proofs.TlbAgreement.{tlb-flushed}
 
-module _ (memory store : List ℕ) where
+module _ (memory bad store : List ℕ) where
   abbrev backing : Backing
-  backing = backingFrom memory emptyBuffer
+  backing = backingFrom memory bad emptyBuffer
 
   no-line : (i : ℕ) → at noLines i ≡ emptyLine
   no-line i = same-at {A = Line} 512 emptyLine i
@@ -33,19 +33,21 @@ module _ (memory store : List ℕ) where
   none i u = clash {b = false} (subst (λ (l : Line). l .valid ≡ true) (no-line i) u) refl
 
   empty-below : (x : ℕ) → below backing x ≡ getD memory x 0
-  empty-below x = over-empties 8 x (getD memory x 0)
+  empty-below x = over-empties bad 8 x (getD memory x 0)
 
   settled : (x : ℕ) → SettledAt backing memory x
   settled x =
       record {
         in-memory = refl;
-        in-entries = λ j t. clash t (ap (λ (s : Slot). masks s x) (same-at {A = Slot} 8 emptySlot j) ∙ empty-masks x);
+        in-entries = λ j t.
+            clash t
+            (unmasked-lands bad (slotAt emptyBuffer j) x (ap (λ (s : Slot). masks s x) (same-at {A = Slot} 8 emptySlot j) ∙ empty-masks x));
       }
 
   staged : (stage : ℕ → Stage) → Staged backing memory stage
   staged stage = record { cleaned-below = λ x e. empty-below x; drained-settled = λ x e. settled x }
 
-  start-side : (size : ℕ) → SideAgrees (fresh size memory store .side) memory noHistory
+  start-side : (size : ℕ) → SideAgrees (fresh size memory bad store .side) memory noHistory
   unfolding fresh
   start-side size =
       record {
@@ -56,20 +58,21 @@ module _ (memory store : List ℕ) where
           dirty-through = λ i u d. none i u;
           one = record { physical = λ v p q a b. clash {b = false} a refl; virtual = λ v w p a b. clash {b = false} a refl };
         };
+        good = λ i x u e. none i u;
         under = λ x u. empty-below x;
         words = staged (λ x. noHistory .wordStage (x / 4));
         lines = staged (λ x. noHistory .lineStage (x / 32));
       }
 
-  start-tlb : (base : ℕ) → TlbAgrees noEntries base memory noHistory
+  start-tlb : (base : ℕ) → TlbAgrees noEntries base memory bad noHistory
   unfolding flushed
-  start-tlb base = tlb-flushed base memory noHistory
+  start-tlb base = tlb-flushed base memory bad noHistory
 
   module _ (mb : Bytes memory) (sb : Bytes store) (e : startRefusal memory store ≡ 0) where
-    pub start-agrees : Agrees (started memory store .machine) (plainStart memory) noHistory
+    pub start-agrees : Agrees (started memory bad store .machine) (plainStart memory bad) noHistory
     unfolding started plainStart fresh
     start-agrees =
-        let s = start-sound memory store mb sb e in
+        let s = start-sound memory bad store mb sb e in
         record {
           registers = refl;
           calls = refl;
@@ -77,6 +80,7 @@ module _ (memory store : List ℕ) where
           is-sound = s .1;
           size = s .3 ∙ sym (s .2);
           long = s .2;
+          same-map = refl;
           side = start-side 0;
           tlb = start-tlb 0;
         }

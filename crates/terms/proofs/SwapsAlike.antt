@@ -23,8 +23,8 @@ use Rattle.loads.specs.Loads.{loadHit}
 use Rattle.stores.specs.Stores.{storeHit, storeDirect}
 use Rattle.swaps.specs.Swaps.{swapHit, swapDirect, swapMiss, swap}
 use Rattle.swaps.proofs.Laws.{miss-direct, miss-faults, swap-found, swap-none}
-use Rattle.plain.specs.Plain.{Plain, PlainStepped, plainPhysical, plainStepped, plainLoad, plainStore, plainSwap}
-use Rattle.plain.proofs.Laws.{load-in, swap-in, swap-other}
+use Rattle.plain.specs.Plain.{Plain, plainPhysical, plainStepped, plainLoaded, plainStore, plainSwap}
+use Rattle.plain.proofs.Laws.{swap-in, swap-other}
 use Rattle.terms.specs.History.{History, afterStore}
 use Rattle.terms.proofs.Fills.{drained-byte}
 use Rattle.terms.proofs.Alike.{Alike, alike-by}
@@ -36,19 +36,27 @@ module _ (n : ℕ) (m : Machine) (p : Plain) (h : History) (a : Access) (v : ℕ
   abbrev after : History
   after = afterStore h (plainPhysical p) (cleared a) (Passed l)
 
-  -- what a store leaves, with the answer of the plain machine's load, where the word answers
+  -- what a store leaves, with the word that the plain machine reads, where it answers
   both-alike : (y s : Stepped) (x : Answer) → s ≡ steppedFrom (y .machine) x → aborts (plainPhysical p) (l .address) ≡ false
-      → x ≡ plainLoad p a l .answer → Alike n y (plainStore p a v l) after → Alike n s (plainSwap p a v l) after
+      → x ≡ plainLoaded p a l → Alike n y (plainStore p a v l) after → Alike n s (plainSwap p a v l) after
   both-alike y s x e b f j =
-      alike-by n s (steppedFrom (y .machine) x) (plainSwap p a v l) (plainStepped (plainStore p a v l .plain) (plainLoad p a l .answer)) after e
+      alike-by n s (steppedFrom (y .machine) x) (plainSwap p a v l) (plainStepped (plainStore p a v l .plain) (plainLoaded p a l)) after e
       (swap-in p a l v b)
-      (record { same-answer = f; registers = j .registers; calls = j .calls; long = j .long; side = j .side; tlb = j .tlb })
+      (record {
+        same-answer = f;
+        registers = j .registers;
+        calls = j .calls;
+        long = j .long;
+        same-map = j .same-map;
+        side = j .side;
+        tlb = j .tlb;
+      })
 
   hit-alike : (i : ℕ) → find (m .side .cache .lines) (cleared a) ≡ At i → Alike n (swapHit m a v i) (plainSwap p a v l) after
   unfolding swapHit
   hit-alike i e =
       both-alike (storeHit m a v i) (swapHit m a v i) (loadHit m a i .answer) refl (hit-answers n m p h a l k i e)
-      (loads.hit-alike n m p h a l k i e .same-answer) (stores.hit-alike n m p h a v l k i e)
+      (loads.hit-answer n m p h a l k i e) (stores.hit-alike n m p h a v l k i e)
 
   module _ (miss : find (m .side .cache .lines) (cleared a) ≡ Nothing) where
     -- the value read once the buffer is drained is the plain machine's
@@ -66,7 +74,7 @@ module _ (n : ℕ) (m : Machine) (p : Plain) (h : History) (a : Access) (v : ℕ
     direct-alike b =
         let x = loadAnswer (a .kind) (a .width) (valueAt (a .width) (memoryOf (drainedAll m)) (l .address .0)) in
         both-alike (storeDirect m a v l) (swapDirect m a v l) x refl b
-        (ap (loadAnswer (a .kind) (a .width)) read-alike ∙ sym (ap (λ (y : PlainStepped). y .answer) (load-in p a l b)))
+        (ap (loadAnswer (a .kind) (a .width)) read-alike)
         (stores.direct-alike n m p h a v l k b miss)
 
     miss-alike : Alike n (swapMiss m a v l) (plainSwap p a v l) after

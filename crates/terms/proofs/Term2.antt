@@ -30,7 +30,7 @@ use Rattle.values.specs.declared.Call.the-variants as calls
 use Rattle.values.proofs.Cases.{case}
 use Rattle.words.specs.Signed.{loadAnswer}
 use Rattle.rights.specs.Rights.{rights, permits, domainValue}
-use Rattle.bus.specs.Physical.{Physical, aborts}
+use Rattle.bus.specs.Physical.{Physical, aborts, wantedAborts}
 use Rattle.bus.specs.Reader.{descriptorAt}
 use Rattle.bus.specs.declared.Descriptor.{Descriptor}
 use Rattle.bus.specs.declared.Descriptor.the-variants.{Word, Outside}
@@ -57,7 +57,8 @@ use Rattle.cp15.specs.Operations as cp15
 use Rattle.step.specs.Meets.{refusal}
 use Rattle.step.specs.Call.{done, served}
 use Rattle.terms.proofs.Callers.{fault-leaves}
-use Rattle.terms.specs.Term2.{isOutside, wordIn, hasBits, isNothing, entryOf, placeBy, rows, Faulting, faults, passes, faultIn, tableFault, Term2}
+use Rattle.terms.specs.Callers.{placeBy}
+use Rattle.terms.specs.Term2.{isOutside, wordIn, hasBits, isNothing, entryOf, rows, Faulting, faults, passes, faultIn, tableFault, Term2}
 
 -- ---- cases
 
@@ -124,9 +125,8 @@ module _ (given : VirtualAddress) where
 
   abbrev placeRows : Registers → Physical → Search → Bool → Bool → Place → List (Row Faulting)
   placeRows r memory x store swap p =
-      let lost : Bool = isNothing x && aborts memory (p .address) in
-      let onFill : Bool = lost && (not store && fills r p) in
-      let other : Bool = lost && (swap || cond store (not (buffers r p)) (not (fills r p))) in
+      let onFill : Bool = isNothing x && (not store && (fills r p && wantedAborts memory (p .address))) in
+      let other : Bool = isNothing x && (aborts memory (p .address) && (swap || cond store (not (buffers r p)) (not (fills r p)))) in
       row (onFill && not (p .page)) FillSection (p .domain)
       ∷ row (onFill && p .page) FillPage (p .domain)
       ∷ row (other && not (p .page)) OtherSection (p .domain)
@@ -235,13 +235,13 @@ module _ (m : Machine) (a : Access) where
   load-missed : (p : Place) → faultIn (loadMiss m a p .answer) ≡ faultOf (searchRows Nothing false false p)
   unfolding firstMet loadMiss loadFill loadUncached faulted
   load-missed p =
+      let wanted = wantedAborts (physicalOf m) (p .address) in
+      let own = aborts (physicalOf m) (p .address) in
       case (fills (m .cp15 .registers) p)
       (λ f.
-      case (aborts (physicalOf m) (p .address)) (λ h. case (p .page) (λ g. rw (f, h, g)) (λ g. rw (f, h, g)))
-      (λ h. rw (f, h) (load-passes (a .kind) (a .width) _)))
-      (λ f.
-      case (aborts (physicalOf m) (p .address)) (λ h. case (p .page) (λ g. rw (f, h, g)) (λ g. rw (f, h, g)))
-      (λ h. rw (f, h) (load-passes (a .kind) (a .width) _)))
+      case wanted (λ h. case (p .page) (λ g. rw (f, h, g)) (λ g. rw (f, h, g)))
+      (λ h. case own (λ o. rw (f, h, o) (load-passes (a .kind) (a .width) _)) (λ o. rw (f, h, o) (load-passes (a .kind) (a .width) _))))
+      (λ f. case own (λ h. case (p .page) (λ g. rw (f, h, g)) (λ g. rw (f, h, g))) (λ h. rw (f, h) (load-passes (a .kind) (a .width) _)))
 
   load-found : (p : Place) (x : Search) → faultIn (loadFound m a p x .answer) ≡ faultOf (searchRows x false false p)
   unfolding firstMet loadHit

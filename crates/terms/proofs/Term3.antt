@@ -42,12 +42,12 @@ settled-memory m p h g s =
     ext-getD 0 (memoryOf m) (p .memory) (g .long) (λ x b. g .side .lines .drained-settled x (s (x / 32)) .in-memory)
 
 pub term3 : Term3
-term3 memory store calls r =
-    let a = start-agrees memory store (r .memory-bytes) (r .store-bytes) (r .served-start) in
-    let l = list-agrees (started memory store .machine) (plainStart memory) noHistory a calls (r .numbers) (r .keeps) in
-    let m = library memory store calls in
-    let p = plain memory calls in
-    let h = historyAfter (plainStart memory) noHistory calls in
+term3 memory bad store calls r =
+    let a = start-agrees memory bad store (r .memory-bytes) (r .store-bytes) (r .served-start) in
+    let l = list-agrees (started memory bad store .machine) (plainStart memory bad) noHistory a calls (r .numbers) (r .keeps) in
+    let m = library memory bad store calls in
+    let p = plain memory bad calls in
+    let h = historyAfter (plainStart memory bad) noHistory calls in
     record {
       same-answers = l .0;
       same-registers = l .1 .registers;

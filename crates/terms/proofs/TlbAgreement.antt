@@ -34,7 +34,7 @@ use Rattle.walk.proofs.Finds.{Finds, by-section, by-large, by-small, finds}
 use Rattle.tlb.specs.Tlb.{covers, lookup, placed, flushed, dropped}
 use Rattle.tlb.proofs.Covered.{Equal, covered, covered-large, second-address-group}
 use Rattle.tlb.proofs.Places.{empty-covers, placed-here, placed-other, dropped-at}
-use Rattle.buffer.specs.Buffer.{Backing}
+use Rattle.buffer.specs.Buffer.{Backing, physicalBehind}
 use Rattle.translation.specs.Alignment.{cleared}
 use Rattle.translation.specs.Translation.{ofWalk, ofLookup, translation, walkedOnly, checked, entriesAfter}
 use Rattle.translation.specs.declared.Place.{Place}
@@ -112,7 +112,8 @@ found-covers entries va i e =
     let q : i - 0 ≡ i = omega arith in
     rw q at (m .match)
 
-module _ (b : Backing) (p : Plain) (h : History) (long : length (b .memory) ≡ length (p .memory)) (s : Staged b (p .memory) (byWord h)) where
+module _ (b : Backing) (p : Plain) (h : History) (long : length (b .memory) ≡ length (p .memory)) (same-map : b .bad ≡ p .bad)
+    (s : Staged b (p .memory) (byWord h)) where
   -- a word that may be walked is the plain machine's in memory
   word-agrees : (w : ℕ) → isFlushed (h .wordStage w) ≡ true → valueAt 4 (p .memory) (w * 4) ≡ valueAt 4 (b .memory) (w * 4)
   word-agrees w e =
@@ -123,26 +124,27 @@ module _ (b : Backing) (p : Plain) (h : History) (long : length (b .memory) ≡ 
       sym (s .drained-settled (w * 4 + j) d .in-memory))
 
   -- a walk of words that are all settled
-  walk-agrees : (va : VirtualAddress) → Readable (p .memory) (p .registers .base) h va
-      → walk (physical (b .memory)) (p .registers .base) va ≡ walk (plainPhysical p) (p .registers .base) va
+  walk-agrees : (va : VirtualAddress) → Readable (p .memory) (p .bad) (p .registers .base) h va
+      → walk (physicalBehind b) (p .registers .base) va ≡ walk (plainPhysical p) (p .registers .base) va
   walk-agrees va r =
       sym
-      (walk-where (plainPhysical p) (physical (b .memory)) (aborts-same (plainPhysical p) (physical (b .memory)) (sym long))
+      (walk-where (plainPhysical p) (physicalBehind b) (aborts-same (plainPhysical p) (physicalBehind b) (sym long) (sym same-map))
       (λ (w : ℕ). isFlushed (h .wordStage w)) word-agrees (p .registers .base) va r)
 
-  module _ (entries : List Entry) (t : TlbAgrees entries (p .registers .base) (p .memory) h) (a : Access)
-      (r4 : mmu (p .registers) ≡ true → Readable (p .memory) (p .registers .base) h (cleared a)) (r5 : mmu (p .registers) ≡ true → h .baseStale ≡ false) where
+  module _ (entries : List Entry) (t : TlbAgrees entries (p .registers .base) (p .memory) (p .bad) h) (a : Access)
+      (r4 : mmu (p .registers) ≡ true → Readable (p .memory) (p .bad) (p .registers .base) h (cleared a))
+      (r5 : mmu (p .registers) ≡ true → h .baseStale ≡ false) where
     abbrev va : VirtualAddress
     va = cleared a
 
     -- whether an access passes, and where
-    pub checked-agrees : checked (p .registers) a (translation entries (p .registers) (physical (b .memory)) (cleared a))
+    pub checked-agrees : checked (p .registers) a (translation entries (p .registers) (physicalBehind b) (cleared a))
         ≡ checked (p .registers) a (walkedOnly (p .registers) (plainPhysical p) (cleared a))
     unfolding translation walkedOnly
     checked-agrees = case (mmu (p .registers)) (λ m. rw m (go m (lookup entries va) refl)) (λ m. rw m)
       where
         go : mmu (p .registers) ≡ true → (x : Search) → lookup entries va ≡ x
-            → checked (p .registers) a (ofLookup entries (p .registers) (physical (b .memory)) va x)
+            → checked (p .registers) a (ofLookup entries (p .registers) (physicalBehind b) va x)
             ≡ checked (p .registers) a (ofWalk (walk (plainPhysical p) (p .registers .base) va))
         go m (At i) e = sym (ap (λ (x : Mapping). checked (p .registers) a (ofWalk x)) (t .mapped (r5 m) i va (found-covers entries va i e) (r4 m)))
         go m Nothing e = ap (λ (x : Mapping). checked (p .registers) a (ofWalk x)) (walk-agrees va (r4 m))
@@ -150,14 +152,14 @@ module _ (b : Backing) (p : Plain) (h : History) (long : length (b .memory) ≡ 
     module _ (aligned : p .registers .base % 4 ≡ 0) (pointer : ℕ) where
       -- the entries with what the plain walk finds at the pointer
       placed-agrees : (e : Entry) → walk (plainPhysical p) (p .registers .base) va ≡ walked.Found e → R6 p va
-          → TlbAgrees (placed entries pointer e) (p .registers .base) (p .memory) h
+          → TlbAgrees (placed entries pointer e) (p .registers .base) (p .memory) (p .bad) h
       unfolding placed
       placed-agrees e found r6 =
           case (ltb pointer (length entries))
           (λ k. record { mapped = λ f i u c r. at f i u r (ltb-true pointer (length entries) k) c })
           (λ k. rw (set-out entries pointer e (ltb-false pointer (length entries) k)) t)
         where
-          at : h .baseStale ≡ false → (i : ℕ) (u : VirtualAddress) → Readable (p .memory) (p .registers .base) h u → pointer < length entries
+          at : h .baseStale ≡ false → (i : ℕ) (u : VirtualAddress) → Readable (p .memory) (p .bad) (p .registers .base) h u → pointer < length entries
               → covers u (getD (placed entries pointer e) i emptyEntry) ≡ true
               → walk (plainPhysical p) (p .registers .base) u ≡ walked.Found (getD (placed entries pointer e) i emptyEntry)
           at f i u r k =
@@ -170,64 +172,64 @@ module _ (b : Backing) (p : Plain) (h : History) (long : length (b .memory) ≡ 
 
       -- the entries once a mapping found by a walk has been placed
       pub tlb-committed : (mmu (p .registers) ≡ true → R6 p (cleared a))
-          → TlbAgrees (entriesAfter entries pointer (translation entries (p .registers) (physical (b .memory)) (cleared a))) (p .registers .base)
-          (p .memory) h
+          → TlbAgrees (entriesAfter entries pointer (translation entries (p .registers) (physicalBehind b) (cleared a))) (p .registers .base)
+          (p .memory) (p .bad) h
       unfolding translation
       tlb-committed r6 = case (mmu (p .registers)) (λ m. rw m (by-lookup m (lookup entries va))) (λ m. rw m t)
         where
           by-walk : R6 p va → (x : Mapping) → walk (plainPhysical p) (p .registers .base) va ≡ x
-              → TlbAgrees (entriesAfter entries pointer (ofWalk x)) (p .registers .base) (p .memory) h
+              → TlbAgrees (entriesAfter entries pointer (ofWalk x)) (p .registers .base) (p .memory) (p .bad) h
           by-walk r (walked.Found e) f = placed-agrees e f r
           by-walk r (walked.Failed s d) f = t
 
           by-lookup : mmu (p .registers) ≡ true → (x : Search)
-              → TlbAgrees (entriesAfter entries pointer (ofLookup entries (p .registers) (physical (b .memory)) va x)) (p .registers .base) (p .memory) h
+              → TlbAgrees (entriesAfter entries pointer (ofLookup entries (p .registers) (physicalBehind b) va x)) (p .registers .base) (p .memory) (p .bad) h
           by-lookup m (At i) = t
-          by-lookup m Nothing = by-walk (r6 m) (walk (physical (b .memory)) (p .registers .base) va) (sym (walk-agrees va (r4 m)))
+          by-lookup m Nothing = by-walk (r6 m) (walk (physicalBehind b) (p .registers .base) va) (sym (walk-agrees va (r4 m)))
 
 -- ---- the other steps
 
-module _ (base : ℕ) (pm : List ℕ) (h : History) where
+module _ (base : ℕ) (pm bad : List ℕ) (h : History) where
   -- a whole flush of the TLB
-  pub tlb-flushed : TlbAgrees flushed base pm h
+  pub tlb-flushed : TlbAgrees flushed base pm bad h
   unfolding flushed
   tlb-flushed = record { mapped = λ f i va c r. clash (ap (covers va) (sym (same-at 32 emptyEntry i)) ∙ c) (empty-covers va) }
 
   -- a table base that has been written
-  pub tlb-stale : (entries : List Entry) → h .baseStale ≡ true → TlbAgrees entries base pm h
+  pub tlb-stale : (entries : List Entry) → h .baseStale ≡ true → TlbAgrees entries base pm bad h
   tlb-stale entries e = record { mapped = λ f i va c r. clash e f }
 
-  module _ (entries : List Entry) (t : TlbAgrees entries base pm h) where
+  module _ (entries : List Entry) (t : TlbAgrees entries base pm bad h) where
     -- entries dropped
-    pub tlb-dropped : (va : VirtualAddress) → TlbAgrees (dropped entries va) base pm h
+    pub tlb-dropped : (va : VirtualAddress) → TlbAgrees (dropped entries va) base pm bad h
     tlb-dropped va = record { mapped = λ f i u c r. kept f i u r c }
       where
-        kept : h .baseStale ≡ false → (i : ℕ) (u : VirtualAddress) → Readable pm base h u → covers u (getD (dropped entries va) i emptyEntry) ≡ true
-            → walk (physical pm) base u ≡ walked.Found (getD (dropped entries va) i emptyEntry)
+        kept : h .baseStale ≡ false → (i : ℕ) (u : VirtualAddress) → Readable pm bad base h u → covers u (getD (dropped entries va) i emptyEntry) ≡ true
+            → walk (physical pm bad) base u ≡ walked.Found (getD (dropped entries va) i emptyEntry)
         kept f i u r =
             rw (dropped-at entries va i)
             (case (covers va (getD entries i emptyEntry)) (λ k. rw k (λ c. clash c (empty-covers u))) (λ k. rw k (λ c. t .mapped f i u c r)))
 
     -- a history in which no more words may be walked
     pub tlb-history : (g : History) → g .baseStale ≡ h .baseStale → ((w : ℕ) → isFlushed (g .wordStage w) ≡ true → isFlushed (h .wordStage w) ≡ true)
-        → TlbAgrees entries base pm g
+        → TlbAgrees entries base pm bad g
     tlb-history g e f =
         let test : History → ℕ → Bool = λ k w. isFlushed (k .wordStage w) in
-        record { mapped = λ k i va c r. t .mapped (sym e ∙ k) i va c (all-weaker (test g) (test h) f (wordsRead (physical pm) base va) r) }
+        record { mapped = λ k i va c r. t .mapped (sym e ∙ k) i va c (all-weaker (test g) (test h) f (wordsRead (physical pm bad) base va) r) }
 
     -- a store inside a word
     pub tlb-stored : (w v : ℕ) (va : VirtualAddress) (l : Place) → l .address .0 % 4 + w ≤ 4
-        → TlbAgrees entries base (stored w pm (l .address .0) v) (withStore h va (l .address))
+        → TlbAgrees entries base (stored w pm (l .address .0) v) bad (withStore h va (l .address))
     tlb-stored w v va l f = record { mapped = λ k j u c r. walk-old u r ∙ t .mapped k j u c (readable-old u r) }
       where
         x : ℕ
         x = l .address .0
 
         new : Physical
-        new = physical (stored w pm x v)
+        new = physical (stored w pm x v) bad
 
-        same-aborts : (pa : PhysicalAddress) → aborts new pa ≡ aborts (physical pm) pa
-        same-aborts = aborts-same new (physical pm) (length-stored w pm x v)
+        same-aborts : (pa : PhysicalAddress) → aborts new pa ≡ aborts (physical pm bad) pa
+        same-aborts = aborts-same new (physical pm bad) (length-stored w pm x v) refl
 
         test : ℕ → Bool
         test n = isFlushed (withStore h va (l .address) .wordStage n)
@@ -246,10 +248,10 @@ module _ (base : ℕ) (pm : List ℕ) (h : History) where
             (λ k. let q = ltb-true n (x / 4) k in load-before 4 w pm x (n * 4) v (omega arith))
             (λ k. let q = ltb-false n (x / 4) k in load-behind 4 w pm x (n * 4) v (omega arith))
 
-        walk-old : (u : VirtualAddress) → Readable (new .bytes) base (withStore h va (l .address)) u → walk new base u ≡ walk (physical pm) base u
-        walk-old u r = walk-where new (physical pm) same-aborts test same base u r
+        walk-old : (u : VirtualAddress) → Readable (new .bytes) bad base (withStore h va (l .address)) u → walk new base u ≡ walk (physical pm bad) base u
+        walk-old u r = walk-where new (physical pm bad) same-aborts test same base u r
 
-        readable-old : (u : VirtualAddress) → Readable (new .bytes) base (withStore h va (l .address)) u → Readable pm base h u
+        readable-old : (u : VirtualAddress) → Readable (new .bytes) bad base (withStore h va (l .address)) u → Readable pm bad base h u
         readable-old u r =
-            subst (λ (ws : List ℕ). all (λ (n : ℕ). isFlushed (h .wordStage n)) ws ≡ true) (reads-where new (physical pm) same-aborts test same base u r)
+            subst (λ (ws : List ℕ). all (λ (n : ℕ). isFlushed (h .wordStage n)) ws ≡ true) (reads-where new (physical pm bad) same-aborts test same base u r)
             (all-weaker test (λ (n : ℕ). isFlushed (h .wordStage n)) (λ n e. other n e .1) (wordsRead new base u) r)

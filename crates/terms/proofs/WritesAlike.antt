@@ -23,6 +23,7 @@ use Rattle.plain.specs.Plain.{Plain, plainRead, plainWrite}
 use Rattle.terms.specs.History.{Stage, never, stored, cleaned, drained, flushed, History, afterClean, afterDrain}
 use Rattle.terms.specs.History.{afterWrite, afterLineClean, afterBufferDrain, afterWholeTlbFlush, afterWholeFlush, afterBaseWrite}
 use Rattle.terms.specs.Rules.{isStored, isFlushed, R3}
+use Rattle.soundness_laws.proofs.MapKept.{bad-write}
 use Rattle.terms.proofs.Invariant.{SideAgrees, TlbAgrees}
 use Rattle.terms.proofs.TlbAgreement.{tlb-flushed, tlb-stale, tlb-dropped, tlb-history}
 use Rattle.terms.proofs.Cleans.{drained-side, cleaned-side}
@@ -105,12 +106,12 @@ module _ (n : ℕ) (m : Machine) (p : Plain) (h : History) (k : Shared n m p h) 
   record Leaves (m′ : Machine) (g : History) : Type 0 where
     calls : m′ .counts .calls ≡ m .counts .calls
     side : SideAgrees (m′ .side) (p .memory) g
-    tlb : TlbAgrees (m′ .entries) (p .registers .base) (p .memory) g
+    tlb : TlbAgrees (m′ .entries) (p .registers .base) (p .memory) (p .bad) g
 
   -- entries as they are, in a history in which no more words may be walked
   kept-tlb : (g : History) → g .baseStale ≡ h .baseStale → ((w : ℕ) → isFlushed (g .wordStage w) ≡ true → isFlushed (h .wordStage w) ≡ true)
-      → TlbAgrees (m .entries) (p .registers .base) (p .memory) g
-  kept-tlb g e f = tlb-history (p .registers .base) (p .memory) h (m .entries) (k .tlb) g e f
+      → TlbAgrees (m .entries) (p .registers .base) (p .memory) (p .bad) g
+  kept-tlb g e f = tlb-history (p .registers .base) (p .memory) (p .bad) h (m .entries) (k .tlb) g e f
 
   -- ---- one law for each operation
 
@@ -138,7 +139,7 @@ module _ (n : ℕ) (m : Machine) (p : Plain) (h : History) (k : Shared n m p h) 
       record {
         calls = refl;
         side = tlb-flushed-side (m .side) (p .memory) h (k .side);
-        tlb = tlb-flushed (p .registers .base) (p .memory) (afterWholeTlbFlush h);
+        tlb = tlb-flushed (p .registers .base) (p .memory) (p .bad) (afterWholeTlbFlush h);
       }
 
   -- those at a virtual address
@@ -157,7 +158,7 @@ module _ (n : ℕ) (m : Machine) (p : Plain) (h : History) (k : Shared n m p h) 
         }
 
     drop-leaves : Leaves (withEntries m (tlbs.dropped (m .entries) va)) h
-    drop-leaves = record { calls = refl; side = k .side; tlb = tlb-dropped (p .registers .base) (p .memory) h (m .entries) (k .tlb) va }
+    drop-leaves = record { calls = refl; side = k .side; tlb = tlb-dropped (p .registers .base) (p .memory) (p .bad) h (m .entries) (k .tlb) va }
 
   module _ (t : Transfer) (v : ℕ) where
     abbrev va : VirtualAddress
@@ -196,12 +197,14 @@ module _ (n : ℕ) (m : Machine) (p : Plain) (h : History) (k : Shared n m p h) 
           registers = ap (λ (x : Registers). writtenOf x (t .register) v) (k .registers);
           calls = ap (λ (x : Machine). x .counts .calls) (b .0) ∙ k .calls;
           long = k .long;
+          same-map = bad-write m t v ∙ k .same-map;
           side =
               subst (λ (x : Machine). SideAgrees (x .side) (p .memory) g) (sym (b .0))
               (subst (λ (x : History). SideAgrees (m .side) (p .memory) x) (sym (b .1))
-              (record { cache = k .side .cache; under = k .side .under; words = k .side .words; lines = k .side .lines }));
+              (record { cache = k .side .cache; good = k .side .good; under = k .side .under; words = k .side .words; lines = k .side .lines }));
           tlb =
-              tlb-stale (writtenOf (p .registers) (t .register) v .base) (p .memory) g (operated m t va .entries) (ap (λ (x : History). x .baseStale) (b .1));
+              tlb-stale (writtenOf (p .registers) (t .register) v .base) (p .memory) (p .bad) g (operated m t va .entries)
+              (ap (λ (x : History). x .baseStale) (b .1));
         })
         (λ e.
         let o = operated-leaves r e in
@@ -210,8 +213,9 @@ module _ (n : ℕ) (m : Machine) (p : Plain) (h : History) (k : Shared n m p h) 
           registers = ap (λ (x : Registers). writtenOf x (t .register) v) (k .registers);
           calls = o .calls ∙ k .calls;
           long = k .long;
+          same-map = bad-write m t v ∙ k .same-map;
           side = o .side;
           tlb =
-              subst (λ (x : ℕ). TlbAgrees (operated m t va .entries) x (p .memory) (afterWrite h t v))
+              subst (λ (x : ℕ). TlbAgrees (operated m t va .entries) x (p .memory) (p .bad) (afterWrite h t v))
               (sym (written-base (p .registers) (t .register) v e)) (o .tlb);
         })

@@ -13,6 +13,7 @@ use Rattle.values.specs.declared.Call.the-variants.{Write}
 use Rattle.words.specs.Words.{Bytes}
 use Rattle.trace.specs.Fold.{callsIn}
 use Rattle.step.specs.Meets.{startRefusal}
+use Rattle.refusals.specs.Refusals.{mapFits}
 use Rattle.step.specs.Start.{started}
 use Rattle.step.specs.Call.{Is32}
 use Rattle.step.specs.Run.{answers, final, run}
@@ -39,46 +40,46 @@ abbrev pub callsMade : List ℕ → List ℕ → List Call
 callsMade list answers = callsIn (min (length list / 5) (length answers)) list 0
 
 -- after these calls, every line stored to has been cleaned, and the buffer drained after that
-abbrev pub SettledBy : List ℕ → List Call → Type 0
-SettledBy memory calls = Settled (historyAfter (plainStart memory) noHistory calls)
+abbrev pub SettledBy : List ℕ → List ℕ → List Call → Type 0
+SettledBy memory bad calls = Settled (historyAfter (plainStart memory bad) noHistory calls)
 
 -- a run over a list of numbers, with a list for the answers, whose calls keep the rules, "after a served start on memory and store of any bytes"
-pub record LentRun (memory store list answers : List ℕ) : Type 0 where
+pub record LentRun (memory bad store list answers : List ℕ) : Type 0 where
   pub memory-bytes : Bytes memory
   pub store-bytes : Bytes store
   pub served-start : startRefusal memory store ≡ 0
   pub numbers : All32 list
-  pub keeps : Keeps (plainStart memory) noHistory (callsMade list answers)
+  pub keeps : Keeps (plainStart memory bad) noHistory (callsMade list answers)
 
 -- The library's run and the plain machine's run leave the same list of answers and make the same number of calls. Where every line stored to has
 -- been cleaned and the buffer drained after that, they leave the same memory, byte for byte.
-pub record SameRun (memory store list answers : List ℕ) : Type 0 where
-  pub same-answers : run (started memory store .machine) list answers .answers ≡ plainRun memory list answers .left .answers
-  pub same-made : run (started memory store .machine) list answers .made ≡ plainRun memory list answers .left .made
-  pub same-memory : SettledBy memory (callsMade list answers)
-      → memoryOf (run (started memory store .machine) list answers .machine) ≡ plainRun memory list answers .left .machine .memory
+pub record SameRun (memory bad store list answers : List ℕ) : Type 0 where
+  pub same-answers : run (started memory bad store .machine) list answers .answers ≡ plainRun memory bad list answers .left .answers
+  pub same-made : run (started memory bad store .machine) list answers .made ≡ plainRun memory bad list answers .left .made
+  pub same-memory : SettledBy memory bad (callsMade list answers)
+      → memoryOf (run (started memory bad store .machine) list answers .machine) ≡ plainRun memory bad list answers .left .machine .memory
 
 abbrev pub LentRuns : Type 0
-LentRuns = (memory store list answers : List ℕ) → LentRun memory store list answers → SameRun memory store list answers
+LentRuns = (memory bad store list answers : List ℕ) → LentRun memory bad store list answers → SameRun memory bad store list answers
 
 -- The code, by its contracts: `sa110::start` gave `s` on memory and store; `sa110::run` on what it gave returned `r`, and left the lent memory,
 -- store and list of answers as `memory₁`, `store₁` and `answers₁`.
-pub record CodeRun (memory store list answers : List ℕ) (s : Started) (memory₁ store₁ answers₁ : List ℕ) (r : library.Ran) : Type 0 where
+pub record CodeRun (memory bad store list answers : List ℕ) (s : Started) (memory₁ store₁ answers₁ : List ℕ) (r : library.Ran) : Type 0 where
   pub starts : Starts memory store s
-  pub runs : Runs memory store (s .state) (s .cp15) list answers memory₁ store₁ answers₁ r
+  pub runs : Runs memory bad store (s .state) (s .cp15) list answers memory₁ store₁ answers₁ r
 
 -- `plain::run` returned `p`, and left the lent memory and list of answers as `memory₁` and `answers₁`
-abbrev pub PlainCodeRun : List ℕ → List ℕ → List ℕ → List ℕ → List ℕ → plain.Ran → Type 0
-PlainCodeRun memory list answers memory₁ answers₁ p = plainLeft memory₁ answers₁ p ≡ plainRun memory list answers
+abbrev pub PlainCodeRun : List ℕ → List ℕ → List ℕ → List ℕ → List ℕ → List ℕ → plain.Ran → Type 0
+PlainCodeRun memory bad list answers memory₁ answers₁ p = plainLeft memory₁ bad answers₁ p ≡ plainRun memory bad list answers
 
 -- After a served start, if the calls of the list keep the rules, `sa110::run` and `plain::run` write the same answers and return the same number of
 -- calls made; and they leave the same memory where every line stored to has been cleaned and the buffer drained after that.
 abbrev pub CodeAgrees : Type 0
 CodeAgrees =
-    (memory store list answers : List ℕ) → LentRun memory store list answers
-    → (s : Started) (memory₁ store₁ answers₁ : List ℕ) (r : library.Ran) → CodeRun memory store list answers s memory₁ store₁ answers₁ r
-    → (memory₂ answers₂ : List ℕ) (p : plain.Ran) → PlainCodeRun memory list answers memory₂ answers₂ p
-    → (answers₁ ≡ answers₂) × (r .made ≡ p .made) × (SettledBy memory (callsMade list answers) → memory₁ ≡ memory₂)
+    (memory bad store list answers : List ℕ) → LentRun memory bad store list answers
+    → (s : Started) (memory₁ store₁ answers₁ : List ℕ) (r : library.Ran) → CodeRun memory bad store list answers s memory₁ store₁ answers₁ r
+    → (memory₂ answers₂ : List ℕ) (p : plain.Ran) → PlainCodeRun memory bad list answers memory₂ answers₂ p
+    → (answers₁ ≡ answers₂) × (r .made ≡ p .made) × (SettledBy memory bad (callsMade list answers) → memory₁ ≡ memory₂)
 
 -- ---- 2. Two cache stores
 
@@ -86,20 +87,20 @@ CodeAgrees =
 -- start; and they leave the same memory where every line stored to has been cleaned and the buffer drained after that.
 abbrev pub AnyStore : Type 0
 AnyStore =
-    (memory store₁ store₂ : List ℕ) (calls : List Call) → Run memory store₁ calls → Run memory store₂ calls
-    → (answers (started memory store₁ .machine) calls ≡ answers (started memory store₂ .machine) calls)
-    × (SettledBy memory calls → memoryOf (final (started memory store₁ .machine) calls) ≡ memoryOf (final (started memory store₂ .machine) calls))
+    (memory bad store₁ store₂ : List ℕ) (calls : List Call) → Run memory bad store₁ calls → Run memory bad store₂ calls
+    → (answers (started memory bad store₁ .machine) calls ≡ answers (started memory bad store₂ .machine) calls)
+    × (SettledBy memory bad calls → memoryOf (final (started memory bad store₁ .machine) calls) ≡ memoryOf (final (started memory bad store₂ .machine) calls))
 
 -- The same of two runs of the code over one list: `sa110::run` writes the same answers and returns the same number of calls made, on whatever bytes
 -- the cache store holds when `sa110::start` gets it.
 abbrev pub CodeAnyStore : Type 0
 CodeAnyStore =
-    (memory list answers : List ℕ)
-    → (store : List ℕ) → LentRun memory store list answers
-    → (s : Started) (memory₁ store₁ answers₁ : List ℕ) (r : library.Ran) → CodeRun memory store list answers s memory₁ store₁ answers₁ r
-    → (other : List ℕ) → LentRun memory other list answers
-    → (t : Started) (memory₂ store₂ answers₂ : List ℕ) (q : library.Ran) → CodeRun memory other list answers t memory₂ store₂ answers₂ q
-    → (answers₁ ≡ answers₂) × (r .made ≡ q .made) × (SettledBy memory (callsMade list answers) → memory₁ ≡ memory₂)
+    (memory bad list answers : List ℕ)
+    → (store : List ℕ) → LentRun memory bad store list answers
+    → (s : Started) (memory₁ store₁ answers₁ : List ℕ) (r : library.Ran) → CodeRun memory bad store list answers s memory₁ store₁ answers₁ r
+    → (other : List ℕ) → LentRun memory bad other list answers
+    → (t : Started) (memory₂ store₂ answers₂ : List ℕ) (q : library.Ran) → CodeRun memory bad other list answers t memory₂ store₂ answers₂ q
+    → (answers₁ ≡ answers₂) × (r .made ≡ q .made) × (SettledBy memory bad (callsMade list answers) → memory₁ ≡ memory₂)
 
 -- ---- 3. Memory after cleaning and draining
 
@@ -119,21 +120,22 @@ cleanAndDrain vs = map cleanLine vs ++ (drainBuffer ∷ [])
 abbrev pub StoredThrough : List ℕ → History → Type 0
 StoredThrough vs h = (l : ℕ) → isStored (h .lineStage l) ≡ true → any (λ (v : ℕ). eqb (h .through l) v) vs ≡ true
 
-pub record BeforeCleaning (memory store : List ℕ) (calls : List Call) (vs : List ℕ) : Type 0 where
-  pub first : Run memory store calls
+pub record BeforeCleaning (memory bad store : List ℕ) (calls : List Call) (vs : List ℕ) : Type 0 where
+  pub first : Run memory bad store calls
   -- virtual lines of addresses of 32 bits
   pub lines : (i : ℕ) → i < length vs → getD vs i 0 < 0x8000000
-  pub stored-through : StoredThrough vs (historyAfter (plainStart memory) noHistory calls)
-  -- none of the cleans, nor the drain, meets refusal 5
-  pub count : plainFinal (plainStart memory) calls .calls + length vs + 1 ≤ countLimit
+  pub stored-through : StoredThrough vs (historyAfter (plainStart memory bad) noHistory calls)
+  -- none of the cleans, nor the drain, meets refusal 16 or 5
+  pub map-fits : mapFits (length memory) bad ≡ true
+  pub count : plainFinal (plainStart memory bad) calls .calls + length vs + 1 ≤ countLimit
 
 -- After a list of calls that keeps the rules, clean every virtual line through which a line had its last store and was not cleaned since, and then
 -- drain: these calls keep the rules too, and memory is the plain machine's memory after the list, byte for byte.
-pub record AfterCleaning (memory store : List ℕ) (calls : List Call) (vs : List ℕ) : Type 0 where
-  pub keeps : Run memory store (calls ++ cleanAndDrain vs)
-  pub settled : SettledBy memory (calls ++ cleanAndDrain vs)
-  pub same-memory : memoryOf (final (started memory store .machine) (calls ++ cleanAndDrain vs)) ≡ plainFinal (plainStart memory) calls .memory
+pub record AfterCleaning (memory bad store : List ℕ) (calls : List Call) (vs : List ℕ) : Type 0 where
+  pub keeps : Run memory bad store (calls ++ cleanAndDrain vs)
+  pub settled : SettledBy memory bad (calls ++ cleanAndDrain vs)
+  pub same-memory : memoryOf (final (started memory bad store .machine) (calls ++ cleanAndDrain vs)) ≡ plainFinal (plainStart memory bad) calls .memory
 
 abbrev pub CleanedMemory : Type 0
 CleanedMemory =
-    (memory store : List ℕ) (calls : List Call) (vs : List ℕ) → BeforeCleaning memory store calls vs → AfterCleaning memory store calls vs
+    (memory bad store : List ℕ) (calls : List Call) (vs : List ℕ) → BeforeCleaning memory bad store calls vs → AfterCleaning memory bad store calls vs

@@ -103,7 +103,7 @@ withStore h va pa =
       baseStale = h .baseStale;
     }
 
--- a store or a swap, "dropped ones left out", and those that fault
+-- a store or a swap, "dropped ones left out", outside memory or at a bad word, and those that fault
 unfoldable pub afterStore : History → Physical → VirtualAddress → Checked → History
 afterStore h memory va (Denied s d) = h
 afterStore h memory va (Passed l) = cond (aborts memory (l .address)) h (withStore h va (l .address))

@@ -6,3 +6,4 @@ pub mod Term1
 pub mod Term2
 pub mod Term3
 pub mod Corollaries
+pub mod Document01

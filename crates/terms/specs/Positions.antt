@@ -67,13 +67,13 @@ addressIn (Passed l) = l .address
 abbrev pub pastEnd : Call
 pastEnd = Read (record { privileged = false; register = 0; opcode = 0; crm = 0 })
 
-module _ (memory : List ℕ) (list : List Call) where
+module _ (memory bad : List ℕ) (list : List Call) where
   -- call j, and the plain machine that it gets
   abbrev pub call : ℕ → Call
   call j = getD list j pastEnd
 
   abbrev pub before : ℕ → Plain
-  before j = plainFinal (plainStart memory) (take j list)
+  before j = plainFinal (plainStart memory bad) (take j list)
 
   -- the list has call j, and it is served
   unfoldable pub served : ℕ → Bool

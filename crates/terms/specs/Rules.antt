@@ -85,7 +85,7 @@ abbrev pub R5 : History → Type 0
 R5 h = h .baseStale ≡ false
 
 -- "at each access for which the plain walk finds a large page, the aligned group of sixteen words round that level 2 word lies in memory and
--- all are equal"
+-- all are equal"; document 02, Five: "R6's sixteen words are good ones"
 abbrev pub isLarge : Mapping → Bool
 isLarge (Found e) = eqb (e .size) 1
 isLarge (Failed s d) = false

@@ -9,7 +9,6 @@ use Rattle.values.specs.Kinds.{isStore, isSwap}
 use Rattle.values.specs.Rows.{Row, firstMet}
 use Rattle.values.specs.Control.{mmu, system, rom}
 use Rattle.values.specs.Empty.{emptyEntry}
-use Rattle.values.specs.declared.VirtualAddress.{VirtualAddress}
 use Rattle.values.specs.declared.Registers.{Registers}
 use Rattle.values.specs.declared.Entry.{Entry}
 use Rattle.values.specs.declared.Access.{Access}
@@ -29,8 +28,8 @@ use Rattle.walk.specs.Walk.{firstAddress, secondAddress, domainOf}
 use Rattle.tlb.specs.Tlb.{lookup, apOf}
 use Rattle.cache.specs.Dcache.{find}
 use Rattle.translation.specs.Alignment.{alignmentFaults, cleared}
-use Rattle.translation.specs.Translation.{translation, flatPlace, placeOf}
-use Rattle.bus.specs.Physical.{Physical, aborts}
+use Rattle.translation.specs.Translation.{translation}
+use Rattle.bus.specs.Physical.{Physical, aborts, wantedAborts}
 use Rattle.translation.specs.Faults.{fills, buffers}
 use Rattle.translation.specs.declared.Translation.{Translation}
 use Rattle.translation.specs.declared.Translation.the-variants.{Flat, Held, Walked, Failed}
@@ -41,7 +40,7 @@ use Rattle.bus.specs.Reader.{descriptorAt}
 use Rattle.bus.specs.declared.Descriptor.{Descriptor}
 use Rattle.bus.specs.declared.Descriptor.the-variants.{Word, Outside}
 use Rattle.machine.specs.Machine.{Machine, physicalOf}
-use Rattle.terms.specs.Callers.{FaultLeaves}
+use Rattle.terms.specs.Callers.{placeBy, FaultLeaves}
 
 -- ---- the walk's words
 
@@ -62,18 +61,12 @@ abbrev pub isNothing : Search → Bool
 isNothing (At i) = false
 isNothing Nothing = true
 
--- the mapping that serves, and the place that it gives; a failed walk has its row above those that ask
+-- the mapping that serves; a failed walk has its row above those that ask
 abbrev pub entryOf : Translation → Entry
 entryOf Flat = emptyEntry
 entryOf (Held e) = e
 entryOf (Walked e) = e
 entryOf (Failed s d) = emptyEntry
-
-abbrev pub placeBy : VirtualAddress → Translation → Place
-placeBy va Flat = flatPlace va
-placeBy va (Held e) = placeOf e va
-placeBy va (Walked e) = placeOf e va
-placeBy va (Failed s d) = flatPlace va
 
 -- ---- the table
 
@@ -127,17 +120,18 @@ module _ (m : Machine) (a : Access) where
   abbrev place : Place
   place = placeBy (cleared a) mapping
 
-  -- a miss whose word aborts
-  abbrev lost : Bool
-  lost = isNothing (find (m .side .cache .lines) (cleared a)) && aborts memory (place .address)
+  abbrev misses : Bool
+  misses = isNothing (find (m .side .cache .lines) (cleared a))
 
   -- "on line fill": a load that fills; otherwise a load that does not, a store that is not buffered, or a swap: "codes 8 and 10 apply, also on a
   -- buffered page"
+  -- Document 02, Five: "An abort at or before the wanted word faults with 4 or 6."
   abbrev onFill : Bool
-  onFill = lost && (not store && fills regs place)
+  onFill = misses && (not store && (fills regs place && wantedAborts memory (place .address)))
 
+  -- "walks, uncached loads, swaps that miss and unbuffered stores abort as outside memory"
   abbrev other : Bool
-  other = lost && (swap || cond store (not (buffers regs place)) (not (fills regs place)))
+  other = misses && (aborts memory (place .address) && (swap || cond store (not (buffers regs place)) (not (fills regs place))))
 
   -- "Status, in order: alignment 1; walk outside memory 12 (level 1), 14 (level 2); translation 5, 7; domain 9, 11; permission 13, 15;
   -- outside memory on line fill 4, 6, otherwise 8, 10."

@@ -23,8 +23,8 @@ unfoldable pub AllNumbers : List Call → Type 0
 AllNumbers [] = Unit {0}
 AllNumbers (c ∷ cs) = Numbers c × AllNumbers cs
 
--- "after a served start on memory and store of any bytes", a list of calls that keeps rules
-pub record RunUnder (rules : Type 0) (memory store : List ℕ) (calls : List Call) : Type 0 where
+-- "after a served start on memory and store of any bytes", a list of calls that keeps rules, with any map
+pub record RunUnder (rules : Type 0) (memory bad store : List ℕ) (calls : List Call) : Type 0 where
   pub memory-bytes : Bytes memory
   pub store-bytes : Bytes store
   pub served-start : startRefusal memory store ≡ 0
@@ -32,50 +32,50 @@ pub record RunUnder (rules : Type 0) (memory store : List ℕ) (calls : List Cal
   pub keeps : rules
 
 -- the rules call by call, as the proof uses them
-abbrev pub Run : List ℕ → List ℕ → List Call → Type 0
-Run memory store calls = RunUnder (Keeps (plainStart memory) noHistory calls) memory store calls
+abbrev pub Run : List ℕ → List ℕ → List ℕ → List Call → Type 0
+Run memory bad store calls = RunUnder (Keeps (plainStart memory bad) noHistory calls) memory bad store calls
 
 -- the two machines after the calls
-abbrev pub library : List ℕ → List ℕ → List Call → Machine
-library memory store calls = final (started memory store .machine) calls
+abbrev pub library : List ℕ → List ℕ → List ℕ → List Call → Machine
+library memory bad store calls = final (started memory bad store .machine) calls
 
-abbrev pub plain : List ℕ → List Call → Plain
-plain memory calls = plainFinal (plainStart memory) calls
+abbrev pub plain : List ℕ → List ℕ → List Call → Plain
+plain memory bad calls = plainFinal (plainStart memory bad) calls
 
 -- line l of two memories is the same, byte for byte
 abbrev pub SameLine : List ℕ → List ℕ → ℕ → Type 0
 SameLine one other l = (k : ℕ) → k < 32 → getD one (l * 32 + k) 0 ≡ getD other (l * 32 + k) 0
 
 -- What term 3 says of a list of calls, by what settles a line and what settles all of memory.
-pub record SameAsPlain (memory store : List ℕ) (calls : List Call) (line : ℕ → Type 0) (whole : Type 0) : Type 0 where
+pub record SameAsPlain (memory bad store : List ℕ) (calls : List Call) (line : ℕ → Type 0) (whole : Type 0) : Type 0 where
   -- "all answers are those of the plain machine"
-  pub same-answers : answers (started memory store .machine) calls ≡ plainAnswers (plainStart memory) calls
+  pub same-answers : answers (started memory bad store .machine) calls ≡ plainAnswers (plainStart memory bad) calls
   -- the five registers and the count of calls
-  pub same-registers : library memory store calls .cp15 .registers ≡ plain memory calls .registers
-  pub same-calls : library memory store calls .counts .calls ≡ plain memory calls .calls
+  pub same-registers : library memory bad store calls .cp15 .registers ≡ plain memory bad calls .registers
+  pub same-calls : library memory bad store calls .counts .calls ≡ plain memory bad calls .calls
   -- each line that has been cleaned and drained, whether or not others have
-  pub same-line : (l : ℕ) → line l → SameLine (memoryOf (library memory store calls)) (plain memory calls .memory) l
+  pub same-line : (l : ℕ) → line l → SameLine (memoryOf (library memory bad store calls)) (plain memory bad calls .memory) l
   -- "and after cleaning and draining so is memory, byte for byte"
-  pub same-memory : whole → memoryOf (library memory store calls) ≡ plain memory calls .memory
+  pub same-memory : whole → memoryOf (library memory bad store calls) ≡ plain memory bad calls .memory
 
 -- with the rules call by call, as the proof uses them
 abbrev pub Term3 : Type 0
 Term3 =
-    (memory store : List ℕ) (calls : List Call) → Run memory store calls
-    → SameAsPlain memory store calls (λ l. isDrained (historyAfter (plainStart memory) noHistory calls .lineStage l) ≡ true)
-    (Settled (historyAfter (plainStart memory) noHistory calls))
+    (memory bad store : List ℕ) (calls : List Call) → Run memory bad store calls
+    → SameAsPlain memory bad store calls (λ l. isDrained (historyAfter (plainStart memory bad) noHistory calls .lineStage l) ≡ true)
+    (Settled (historyAfter (plainStart memory bad) noHistory calls))
 
 -- the rules over positions in the list, in document 01's words, are those call by call, and so is what settles a line and all of memory
-pub record RulesAlike (memory : List ℕ) (calls : List Call) : Type 0 where
-  pub rules : Keeps (plainStart memory) noHistory calls ↔ (keepsRules memory calls ≡ true)
-  pub line : (l : ℕ) → (isDrained (historyAfter (plainStart memory) noHistory calls .lineStage l) ≡ true) ↔ (settledLine memory calls l ≡ true)
-  pub all-lines : Settled (historyAfter (plainStart memory) noHistory calls) ↔ (settled memory calls ≡ true)
+pub record RulesAlike (memory bad : List ℕ) (calls : List Call) : Type 0 where
+  pub rules : Keeps (plainStart memory bad) noHistory calls ↔ (keepsRules memory bad calls ≡ true)
+  pub line : (l : ℕ) → (isDrained (historyAfter (plainStart memory bad) noHistory calls .lineStage l) ≡ true) ↔ (settledLine memory bad calls l ≡ true)
+  pub all-lines : Settled (historyAfter (plainStart memory bad) noHistory calls) ↔ (settled memory bad calls ≡ true)
 
 abbrev pub SameRules : Type 0
-SameRules = (memory : List ℕ) (calls : List Call) → RulesAlike memory calls
+SameRules = (memory bad : List ℕ) (calls : List Call) → RulesAlike memory bad calls
 
 -- with the rules over positions
 abbrev pub Term3Printed : Type 0
 Term3Printed =
-    (memory store : List ℕ) (calls : List Call) → RunUnder (keepsRules memory calls ≡ true) memory store calls
-    → SameAsPlain memory store calls (λ l. settledLine memory calls l ≡ true) (settled memory calls ≡ true)
+    (memory bad store : List ℕ) (calls : List Call) → RunUnder (keepsRules memory bad calls ≡ true) memory bad store calls
+    → SameAsPlain memory bad store calls (λ l. settledLine memory bad calls l ≡ true) (settled memory bad calls ≡ true)

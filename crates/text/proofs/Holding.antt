@@ -83,21 +83,21 @@ lines-long : (ns : List ℕ) → length (form .thing ns .rest .rest .first) ≡ 
 lines-long ns = ap (λ (s : Saved). length (s .rest .rest .first)) (form-thing ns) ∙ each-long cacheLine 512 _
 
 -- numbers that a machine's words cannot stand for are of no sound machine
-pub all-hold : (memory store ns : List ℕ) → length memory ≤ 0x1000000 → sound (machineWith memory store (form .thing ns)) ≡ true
+pub all-hold : (memory bad store ns : List ℕ) → length memory ≤ 0x1000000 → sound (machineWith memory bad store (form .thing ns)) ≡ true
     → AllHold (form .thing ns)
-all-hold memory store ns short h =
-    let m = machineWith memory store (form .thing ns) in
+all-hold memory bad store ns short h =
+    let m = machineWith memory bad store (form .thing ns) in
     let s = sound-means m (lines-long ns) h in
     record { entries-hold = λ i k. entry-holds m s i; lines-hold = λ i k. line-holds m s short i }
 
-pub unfit-unsound : (memory store ns : List ℕ) → length memory ≤ 0x1000000 → (form .fits ns ≡ true → AllHold (form .thing ns) → ⊥)
-    → (form .fits ns && sound (machineWith memory store (form .thing ns))) ≡ false
-unfit-unsound memory store ns short z =
-    let m = machineWith memory store (form .thing ns) in
+pub unfit-unsound : (memory bad store ns : List ℕ) → length memory ≤ 0x1000000 → (form .fits ns ≡ true → AllHold (form .thing ns) → ⊥)
+    → (form .fits ns && sound (machineWith memory bad store (form .thing ns))) ≡ false
+unfit-unsound memory bad store ns short z =
+    let m = machineWith memory bad store (form .thing ns) in
     case (form .fits ns)
-    (λ f. case (sound m) (λ h. absurd (z f (all-hold memory store ns short h))) (λ h. and-false (form .fits ns) (sound m) h))
+    (λ f. case (sound m) (λ h. absurd (z f (all-hold memory bad store ns short h))) (λ h. and-false (form .fits ns) (sound m) h))
     (λ f. rw f)
 
 -- a sound state has at most eight buffer entries
-pub used-low : (memory store : List ℕ) (s : State) (r : Cp15) → sound (machineIn memory store s r) ≡ true → s .used < 0x100000000
-used-low memory store s r h = let u = sound-used (machineIn memory store s r) h in omega arith
+pub used-low : (memory bad store : List ℕ) (s : State) (r : Cp15) → sound (machineIn memory bad store s r) ≡ true → s .used < 0x100000000
+used-low memory bad store s r h = let u = sound-used (machineIn memory bad store s r) h in omega arith

@@ -19,37 +19,37 @@ use Rattle.text.proofs.Places.{form-places}
 
 -- ---- by the numbers: 3 and 4
 
-module _ (memory store ns : List ℕ) where
+module _ (memory bad store ns : List ℕ) where
   abbrev m : Machine
-  m = machineWith memory store (form .thing ns)
+  m = machineWith memory bad store (form .thing ns)
 
-  pub read-three : (form .fits ns && sound m) ≡ false → refusedBy memory store 3 ≡ readNumbers memory store ns
+  pub read-three : (form .fits ns && sound m) ≡ false → refusedBy memory bad store 3 ≡ readNumbers memory bad store ns
   unfolding readNumbers firstMet
   read-three h = rw h
 
   module _ (f : form .fits ns ≡ true) (s : sound m ≡ true) where
-    pub read-four : (m .size ≡ length memory → ⊥) → refusedBy memory store 4 ≡ readNumbers memory store ns
+    pub read-four : (m .size ≡ length memory → ⊥) → refusedBy memory bad store 4 ≡ readNumbers memory bad store ns
     unfolding readNumbers firstMet
     read-four h = rw (f, s, ne-eqb (m .size) (length memory) h)
 
-    pub read-none : (n : Machine) → n ≡ m → m .size ≡ length memory → startedFrom n 0 ≡ readNumbers memory store ns
+    pub read-none : (n : Machine) → n ≡ m → m .size ≡ length memory → startedFrom n 0 ≡ readNumbers memory bad store ns
     unfolding readNumbers firstMet
     read-none n e h = rw (f, s, eq-eqb (m .size) (length memory) h) (ap (λ (x : Machine). startedFrom x 0) e)
 
 -- ---- by the text: 1 and 14 before them
 
-module _ (memory store text : List ℕ) where
-  pub read-one : lengthFits (length memory) ≡ false → refusedBy memory store 1 ≡ readBack memory store text
+module _ (memory bad store text : List ℕ) where
+  pub read-one : lengthFits (length memory) ≡ false → refusedBy memory bad store 1 ≡ readBack memory bad store text
   unfolding readBack readRefusal firstMet
   read-one h = rw h
 
   module _ (e : lengthFits (length memory) ≡ true) where
-    pub read-fourteen : textNumbers text .formed ≡ false → refusedBy memory store 14 ≡ readBack memory store text
+    pub read-fourteen : textNumbers text .formed ≡ false → refusedBy memory bad store 14 ≡ readBack memory bad store text
     unfolding readBack readRefusal firstMet
     read-fourteen h = rw (e, h)
 
     pub read-formed : (ns : List ℕ) → ns ≡ textNumbers text .numbers → textNumbers text .formed ≡ true
-        → readNumbers memory store ns ≡ readBack memory store text
+        → readNumbers memory bad store ns ≡ readBack memory bad store text
     unfolding readBack readRefusal readNumbers firstMet
     read-formed ns q h = rw (q, e, h)
 

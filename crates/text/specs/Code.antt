@@ -33,23 +33,23 @@ storedRoom m slice =
     (storedFrom (over slice 0 (textOf m)) (answer.Value (length (textOf m))))
 
 -- a refused read
-abbrev pub refusedBy : List ℕ → List ℕ → ℕ → Started
-refusedBy memory store n = startedFrom (fresh 0 memory store) n
+abbrev pub refusedBy : List ℕ → List ℕ → List ℕ → ℕ → Started
+refusedBy memory bad store n = startedFrom (fresh 0 memory bad store) n
 
 -- state and record made of numbers
 pub record RestoredIs (ns : List ℕ) (r : Restored) : Type 0 where
-  pub same : r .fits ≡ true → (memory store : List ℕ) → machineIn memory store (r .state) (r .cp15) ≡ machineWith memory store (form .thing ns)
+  pub same : r .fits ≡ true → (memory bad store : List ℕ) → machineIn memory bad store (r .state) (r .cp15) ≡ machineWith memory bad store (form .thing ns)
   pub fit : r .fits ≡ true → form .fits ns ≡ true
   pub unfit : r .fits ≡ false → form .fits ns ≡ true → AllHold (form .thing ns) → ⊥
 
 -- 3 and 4 of reading, by the numbers of the text
-module _ (memory store ns : List ℕ) where
+module _ (memory bad store ns : List ℕ) where
   abbrev pub numbersRefusal : ℕ
   numbersRefusal =
       refusalIn
-      (row3 (form .fits ns && sound (machineWith memory store (form .thing ns))) ∷ row4 (machineWith memory store (form .thing ns) .size) (length memory)
-      ∷ [])
+      (row3 (form .fits ns && sound (machineWith memory bad store (form .thing ns)))
+      ∷ row4 (machineWith memory bad store (form .thing ns) .size) (length memory) ∷ [])
 
   -- reading by 3 and 4 alone
   unfoldable pub readNumbers : Started
-  readNumbers = startedFrom (cond (eqb numbersRefusal 0) (machineWith memory store (form .thing ns)) (fresh 0 memory store)) numbersRefusal
+  readNumbers = startedFrom (cond (eqb numbersRefusal 0) (machineWith memory bad store (form .thing ns)) (fresh 0 memory bad store)) numbersRefusal

@@ -20,10 +20,10 @@ textNumbers text = readBy (form .places) text
 abbrev pub row14 : Bool → Row ℕ
 row14 formed = refuses 14 (not formed)
 
-module _ (memory store text : List ℕ) where
-  -- the machine whose state and record a text has, with memory and cache store
+module _ (memory bad store text : List ℕ) where
+  -- the machine whose state and record a text has, with memory, map and cache store
   abbrev pub machineRead : Machine
-  machineRead = machineWith memory store (form .thing (textNumbers text .numbers))
+  machineRead = machineWith memory bad store (form .thing (textNumbers text .numbers))
 
   -- a number that does not fit its field is unsound
   abbrev pub soundRead : Bool
@@ -39,4 +39,4 @@ module _ (memory store text : List ℕ) where
 
   -- the machine read, or "a state all zeros", and the refusal's number, 0 where the text is read
   unfoldable pub readBack : Started
-  readBack = startedFrom (cond (eqb readRefusal 0) machineRead (fresh 0 memory store)) readRefusal
+  readBack = startedFrom (cond (eqb readRefusal 0) machineRead (fresh 0 memory bad store)) readRefusal

@@ -26,7 +26,7 @@ fn separators() -> [u8; 3085]
 
 // Refusals 1, 3 and 4 of storing, for a memory of n bytes, or 0.
 fn state_refusal(state: State, cp15: Cp15, n: usize) -> u32
-    ensures { λ r. ⌜ ((memory store : List ℕ) → length memory ≡ n → r ≡ code.storeStateRefusal (machineIn memory store state cp15)) ⌝ }
+    ensures { λ r. ⌜ ((memory bad store : List ℕ) → length memory ≡ n → r ≡ code.storeStateRefusal (machineIn memory bad store state cp15)) ⌝ }
 {
     if refusals::length_fits(n) {
         if state::is_sound(state, cp15, n) {
@@ -43,8 +43,8 @@ fn state_refusal(state: State, cp15: Cp15, n: usize) -> u32
 // A state stored where the slice is long enough; 15 where it is not.
 fn store_sound(state: State, cp15: Cp15, text: &mut [u8]) -> Answer
     requires { ⌜ (state .size < 0x100000000) × (state .used < 0x100000000) ⌝ }
-    ensures { λ r. ⌜ ((memory store : List ℕ) → storing.storedFrom (now (text .exit)) r
-        ≡ code.storedRoom (machineIn memory store state cp15) (now (text .entry))) ⌝ }
+    ensures { λ r. ⌜ ((memory bad store : List ℕ) → storing.storedFrom (now (text .exit)) r
+        ≡ code.storedRoom (machineIn memory bad store state cp15) (now (text .entry))) ⌝ }
 {
     let entries = state.entries;
     let lines = state.lines;
@@ -78,8 +78,8 @@ fn store_sound(state: State, cp15: Cp15, text: &mut [u8]) -> Answer
 // Stores a state and a record as text at the front of a slice, whose bytes behind the text stay. It answers the text's length, or refusal 1, 3, 4 or 15,
 // which changes nothing.
 pub fn store(state: State, cp15: Cp15, memory: &[u8], text: &mut [u8]) -> Answer
-    ensures { λ r. ⌜ ((store : List ℕ) → storing.storedFrom (now (text .exit)) r
-        ≡ storing.stored (machineIn (now (memory .entry)) store state cp15) (now (text .entry))) ⌝ }
+    ensures { λ r. ⌜ ((bad store : List ℕ) → storing.storedFrom (now (text .exit)) r
+        ≡ storing.stored (machineIn (now (memory .entry)) bad store state cp15) (now (text .entry))) ⌝ }
 {
     let n = state_refusal(state, cp15, memory.len());
     if n != 0 {
@@ -90,7 +90,7 @@ pub fn store(state: State, cp15: Cp15, memory: &[u8], text: &mut [u8]) -> Answer
 
 // A refused read: a state and a record all zeros.
 fn refused(n: u32) -> Started
-    ensures { λ r. ⌜ ((memory store : List ℕ) → startedOf memory store r ≡ code.refusedBy memory store n) ⌝ }
+    ensures { λ r. ⌜ ((memory bad store : List ℕ) → startedOf memory bad store r ≡ code.refusedBy memory bad store n) ⌝ }
 {
     Started {
         state: state::fresh(0),
@@ -148,8 +148,8 @@ fn restore(ns: &[u32]) -> Restored
 // The state and the record of numbers, for a memory of n bytes, or refusal 3 or 4.
 fn read_state(ns: &[u32], n: usize) -> Started
     requires { ⌜ (length (now ns) ≡ 3085) × (n ≤ 0x1000000) ⌝ }
-    ensures { λ r. ⌜ ((memory store : List ℕ) → length memory ≡ n
-        → startedOf memory store r ≡ code.readNumbers memory store (now (ns .entry))) ⌝ }
+    ensures { λ r. ⌜ ((memory bad store : List ℕ) → length memory ≡ n
+        → startedOf memory bad store r ≡ code.readNumbers memory bad store (now (ns .entry))) ⌝ }
 {
     let r = restore(ns);
     let state = r.state;
@@ -172,8 +172,8 @@ fn read_state(ns: &[u32], n: usize) -> Started
 
 // Reads a text back: the state and the record that it has, or refusal 1, 14, 3 or 4 with a state and a record all zeros.
 pub fn read(memory: &[u8], text: &[u8]) -> Started
-    ensures { λ r. ⌜ ((store : List ℕ) → startedOf (now (memory .entry)) store r
-        ≡ reading.readBack (now (memory .entry)) store (now (text .entry))) ⌝ }
+    ensures { λ r. ⌜ ((bad store : List ℕ) → startedOf (now (memory .entry)) bad store r
+        ≡ reading.readBack (now (memory .entry)) bad store (now (text .entry))) ⌝ }
 {
     if refusals::length_fits(memory.len()) {
         let behind = separators();

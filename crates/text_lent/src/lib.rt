@@ -10,8 +10,8 @@ use values::Cp15;
 
 // The answer of storing, state and record by value: the text's length, or 2 × 2^32 and the refusal's number.
 fn store_code(state: State, cp15: Cp15, memory: &[u8], text: &mut [u8]) -> u64
-    ensures { λ r. ⌜ ((store : List ℕ) → coded.storedCode (now (text .exit)) r
-        ≡ coded.storedAs (machineIn (now (memory .entry)) store state cp15) (now (text .entry))) ⌝ }
+    ensures { λ r. ⌜ ((bad store : List ℕ) → coded.storedCode (now (text .exit)) r
+        ≡ coded.storedAs (machineIn (now (memory .entry)) bad store state cp15) (now (text .entry))) ⌝ }
 {
     trace::code(text::store(state, cp15, memory, text))
 }
@@ -24,8 +24,8 @@ pub extern "C" fn sa110_store_text(
     memory: &[u8],
     text: &mut [u8],
 ) -> u64
-    ensures { λ r. ⌜ ((store : List ℕ) → coded.storedCode (now (text .exit)) r
-        ≡ coded.storedAs (machineIn (now (memory .entry)) store (now (state .entry)) (now (cp15 .entry))) (now (text .entry))) ⌝ }
+    ensures { λ r. ⌜ ((bad store : List ℕ) → coded.storedCode (now (text .exit)) r
+        ≡ coded.storedAs (machineIn (now (memory .entry)) bad store (now (state .entry)) (now (cp15 .entry))) (now (text .entry))) ⌝ }
 {
     store_code(*state, *cp15, memory, text)
 }
@@ -39,8 +39,8 @@ pub extern "C" fn sa110_read_text(
     text: &[u8],
 ) -> u32
     ensures { λ r.
-        ⌜ ((store : List ℕ) → startedOf (now (memory .entry)) store (record { state = now (state .exit); cp15 = now (cp15 .exit); refusal = r })
-        ≡ readBack (now (memory .entry)) store (now (text .entry))) ⌝ }
+        ⌜ ((bad store : List ℕ) → startedOf (now (memory .entry)) bad store (record { state = now (state .exit); cp15 = now (cp15 .exit); refusal = r })
+        ≡ readBack (now (memory .entry)) bad store (now (text .entry))) ⌝ }
 {
     let r = text::read(memory, text);
     *state = r.state;

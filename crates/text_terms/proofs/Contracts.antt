@@ -22,14 +22,14 @@ use Rattle.text_terms.specs.Stops.{Stores, Reads}
 module _ {M : Type 1} (𝓤 : URA M) (H : Heap 𝓤) (A : Atoms 𝓤) (mem : Memory → SProp 𝓤) (code : Routine → Fun 𝓤) where
   open notation.Connectives (notation.connectives 𝓤) using (⌜_⌝, ⊤ₛ)
 
-  -- on any cache store, which the function is not lent
-  pub store-text-contract : (κs : Lfts 4) (a : Args store-text.signature κs) (r : Res store-text.signature κs) (store : List ℕ)
+  -- on any map and cache store, which the function is not lent
+  pub store-text-contract : (κs : Lfts 4) (a : Args store-text.signature κs) (r : Res store-text.signature κs) (bad store : List ℕ)
       → (store-text.spec 𝓤 H A mem code κs a .requires tt ≡ ⊤ₛ)
       × (store-text.spec 𝓤 H A mem code κs a .ensures tt r
       ≡ exits 𝓤 H A store-text.signature (store-text.ended .kept) κs a
-      (λ e. ⌜ Stores (record { memory = now (a .1 .1 .0); store = store; state = now (a .0); cp15 = now (a .1 .0) }) (now (a .1 .1 .1 .0))
+      (λ e. ⌜ Stores (record { memory = now (a .1 .1 .0); bad = bad; store = store; state = now (a .0); cp15 = now (a .1 .0) }) (now (a .1 .1 .1 .0))
       (now (e .1 .1 .1 .0)) r ⌝))
-  store-text-contract κs a r store = (refl, refl)
+  store-text-contract κs a r bad store = (refl, refl)
 
   pub read-text-contract : (κs : Lfts 4) (a : Args read-text.signature κs) (r : Res read-text.signature κs)
       → (read-text.spec 𝓤 H A mem code κs a .requires tt ≡ ⊤ₛ)

@@ -56,14 +56,14 @@ goes-on (c ∷ cs) n m a g =
 -- a start that gave 0 was served
 start-none : (l : Lent) → Starts l 0 → startRefusal (l .memory) (l .store) ≡ 0
 unfolding started
-start-none l h = sym (ap (λ (x : Started). x .refusal) h)
+start-none l h = sym (ap (λ (x : Started). x .refusal) (h (l .bad)))
 
 -- the machine after a served start and any uses
 after-start : (l : Lent) (us : List Use) → Bytes (l .memory) → Bytes (l .store) → Starts l 0 → Chain l us
     → Goes (length (l .memory)) (machine (lastOf l us))
 after-start l us mb sb starts chain =
-    let begun : machine l ≡ started (l .memory) (l .store) .machine = ap (λ (x : Started). x .machine) starts in
-    let s = start-sound (l .memory) (l .store) mb sb (start-none l starts) in
+    let begun : machine l ≡ started (l .memory) (l .bad) (l .store) .machine = ap (λ (x : Started). x .machine) (starts (l .bad)) in
+    let s = start-sound (l .memory) (l .bad) (l .store) mb sb (start-none l starts) in
     let first : Goes (length (l .memory)) (machine l) =
     subst (Goes (length (l .memory))) (sym begun) (record { formed = s .0; is-sound = s .1; memory = s .2; size = s .3 })
     in
@@ -81,7 +81,7 @@ only-fifteen l us mb sb starts chain slice slice₁ code stores =
     let m = machine (lastOf l us) in
     let f = last .formed in
     let none = sym (store-none m (lengths-fit (length (memoryOf m)) (f .memory-lines) (f .memory-short)) (last .is-sound) (last .size ∙ sym (last .memory))) in
-    ap (λ (x : StoredCode). x .code) (stores (lastOf l us .store)) ∙ ap (λ (x : Stored). codeOf (x .answer)) (sym (stored-room m slice none))
+    ap (λ (x : StoredCode). x .code) (stores (lastOf l us .bad) (lastOf l us .store)) ∙ ap (λ (x : Stored). codeOf (x .answer)) (sym (stored-room m slice none))
     ∙ ap codeOf (room-answer m slice)
 
 pub store-serves : StoreServes
@@ -90,4 +90,4 @@ store-serves l us mb sb starts chain typed slice slice₁ code stores room =
     let m = machine (lastOf l us) in
     let calls = typed .calls in
     let e = longest-enough m slice (last .formed) (last .is-sound) (last .size ∙ sym (last .memory)) (omega arith) room in
-    ap (λ (x : StoredCode). x .code) (stores (lastOf l us .store)) ∙ ap (λ (x : Stored). codeOf (x .answer)) e
+    ap (λ (x : StoredCode). x .code) (stores (lastOf l us .bad) (lastOf l us .store)) ∙ ap (λ (x : Stored). codeOf (x .answer)) e

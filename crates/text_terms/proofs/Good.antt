@@ -21,9 +21,9 @@ use Rattle.text_terms.specs.Texts.{Typed}
 rows-are : (s : State) (r : Cp15) → Typed s r → length (bytesOf (s .slots)) ≡ 8
 rows-are s r t = length-map (s .slots) (λ (x : SlotBytes). x .bytes) ∙ t .slots-long
 
-pub saved-good : (memory store : List ℕ) (s : State) (r : Cp15) → Typed s r → Storable (machineIn memory store s r)
-    → SavedGood (savedOf (machineIn memory store s r))
-saved-good memory store s r t k =
+pub saved-good : (memory bad store : List ℕ) (s : State) (r : Cp15) → Typed s r → Storable (machineIn memory bad store s r)
+    → SavedGood (savedOf (machineIn memory bad store s r))
+saved-good memory bad store s r t k =
     let short = fitting (length memory) (k .fits) .short in
     let size = k .size in
     let rows = rows-are s r t in
@@ -39,7 +39,7 @@ saved-good memory store s r t k =
             pointer = t .pointer;
             long = t .pointers-long;
             pointers = t .pointers;
-            used = used-low memory store s r (k .is-sound);
+            used = used-low memory bad store s r (k .is-sound);
             calls = t .calls;
             misses = t .misses;
             hits = t .hits;

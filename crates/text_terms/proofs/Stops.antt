@@ -32,29 +32,30 @@ use Rattle.text_terms.proofs.Texts.{served-says, read-stored, stored-re
 -- ---- one reading, one storing
 
 -- the machine of a refused read
-refused-machine : (memory store text : List ℕ) → (readBack memory store text .refusal ≡ 0 → ⊥) → readBack memory store text .machine ≡ fresh 0 memory store
+refused-machine : (memory bad store text : List ℕ) → (readBack memory bad store text .refusal ≡ 0 → ⊥) → readBack memory bad store text .machine
+    ≡ fresh 0 memory bad store
 unfolding readBack
-refused-machine memory store text z = rw (ne-eqb (readRefusal memory store text) 0 z)
+refused-machine memory bad store text z = rw (ne-eqb (readRefusal memory bad store text) 0 z)
 
 pub refused-read : RefusedRead
 refused-read memory text s r n places reads z =
-    let e = reads [] in
-    let q : readBack memory [] text .refusal ≡ n = ap (λ (x : Started). x .refusal) (sym e) in
-    let m : machineIn memory [] s r ≡ machineIn memory [] (zeroState 0) zeroCp15 =
-    ap (λ (x : Started). x .machine) e ∙ refused-machine memory [] text (λ k. z (sym q ∙ k)) ∙ sym (fresh-is 0 memory [])
+    let e = reads [] [] in
+    let q : readBack memory [] [] text .refusal ≡ n = ap (λ (x : Started). x .refusal) (sym e) in
+    let m : machineIn memory [] [] s r ≡ machineIn memory [] [] (zeroState 0) zeroCp15 =
+    ap (λ (x : Started). x .machine) e ∙ refused-machine memory [] [] text (λ k. z (sym q ∙ k)) ∙ sym (fresh-is 0 memory [] [])
     in
-    let h = held-same memory [] s r memory [] (zeroState 0) zeroCp15 places (record { words-long = refl; slots-long = refl }) m in
+    let h = held-same [] memory [] s r memory [] (zeroState 0) zeroCp15 places (record { words-long = refl; slots-long = refl }) m in
     (h .same-state, h .same-cp15)
 
 pub stored-again : StoredAgain
 stored-again l text slice slice₁ code reads room stores =
-    let e = reads (l .store) in
-    let m : readBack (l .memory) (l .store) text .machine ≡ machine l = ap (λ (x : Started). x .machine) (sym e) in
-    let q = stored-read (l .memory) (l .store) text slice (ap (λ (x : Started). x .refusal) (sym e)) room in
+    let e = reads (l .bad) (l .store) in
+    let m : readBack (l .memory) (l .bad) (l .store) text .machine ≡ machine l = ap (λ (x : Started). x .machine) (sym e) in
+    let q = stored-read (l .memory) (l .bad) (l .store) text slice (ap (λ (x : Started). x .refusal) (sym e)) room in
     let k : stored (machine l) slice ≡ storedFrom (over slice 0 text) (answer.Value (length text)) =
     ap (λ (x : Machine). stored x slice) (sym m) ∙ q
     in
-    let s = stores (l .store) in
+    let s = stores (l .bad) (l .store) in
     (ap (λ (x : StoredCode). x .slice) s ∙ ap (λ (x : Stored). x .slice) k, ap (λ (x : StoredCode). x .code) s ∙ ap (λ (x : Stored). codeOf (x .answer)) k)
 
 -- ---- a stop
@@ -80,7 +81,7 @@ served-slice m slice n e k z =
 pub stop-same : StopSame
 stop-same l k n p =
     let m = machine l in
-    let s = p .stores (l .store) in
+    let s = p .stores (l .bad) (l .store) in
     let value : stored m (p .slice) .answer ≡ answer.Value (p .long) =
     served-code m (p .slice) (p .long) (p .served) (sym (ap (λ (x : StoredCode). x .code) s))
     in
@@ -88,20 +89,20 @@ stop-same l k n p =
     let text : take (p .long) (p .slice₁) ≡ textOf m =
     ap (λ (x : StoredCode). take (p .long) (x .slice)) s ∙ served-slice m (p .slice) (p .long) value (says .0) (says .1)
     in
-    let back = read-stored (l .memory) (l .store) (p .slice) (l .state) (l .cp15) (p .long) (p .typed) value .1 in
-    let read : startedFrom (machineIn (l .memory) (l .store) (k .state) (k .cp15)) n ≡ startedFrom m 0 =
-    p .reads (l .store) ∙ ap (λ (t : List ℕ). readBack (l .memory) (l .store) t) text ∙ back
+    let back = read-stored (l .memory) (l .bad) (l .store) (p .slice) (l .state) (l .cp15) (p .long) (p .typed) value .1 in
+    let read : startedFrom (machineIn (l .memory) (l .bad) (l .store) (k .state) (k .cp15)) n ≡ startedFrom m 0 =
+    p .reads (l .bad) (l .store) ∙ ap (λ (t : List ℕ). readBack (l .memory) (l .bad) (l .store) t) text ∙ back
     in
     let places : EightPlaces (l .state) = record { words-long = p .typed .words-long; slots-long = p .typed .slots-long } in
-    let held = held-same (l .memory) (l .store) (k .state) (k .cp15) (l .memory) (l .store) (l .state) (l .cp15) (p .places) places
+    let held = held-same (l .bad) (l .memory) (l .store) (k .state) (k .cp15) (l .memory) (l .store) (l .state) (l .cp15) (p .places) places
     (ap (λ (x : Started). x .machine) read) in (
       ap (λ (x : Started). x .refusal) read,
-      record { same-state = held .same-state; same-cp15 = held .same-cp15; same-memory = p .same-memory; same-store = p .same-store },
+      (p .same-map, record { same-state = held .same-state; same-cp15 = held .same-cp15; same-memory = p .same-memory; same-store = p .same-store }),
     )
 
 -- the caller holds the very same
 lent-is : (k l : Lent) → SameLent k l → k ≡ l
-lent-is k l s = rw (s .same-memory, s .same-store, s .same-state, s .same-cp15)
+lent-is k l s = rw (s .0, s .1 .same-memory, s .1 .same-store, s .1 .same-state, s .1 .same-cp15)
 
 -- ---- stops left out
 

@@ -41,17 +41,17 @@ text-numbers m g =
     read-text (form .places) (form .numbers s) (l .no-digits) (l .within (form .numbers s) (l .long s g) (l .fit s g))
 
 -- a machine that can be stored is read back
-pub back : (memory store : List ℕ) (m : Machine) → m ≡ machineWith memory store (savedOf m) → memoryOf m ≡ memory → SavedGood (savedOf m) → Storable m
-    → readBack memory store (textOf m) ≡ startedFrom m 0
-back memory store m e f g k =
+pub back : (memory bad store : List ℕ) (m : Machine) → m ≡ machineWith memory bad store (savedOf m) → memoryOf m ≡ memory → SavedGood (savedOf m) → Storable m
+    → readBack memory bad store (textOf m) ≡ startedFrom m 0
+back memory bad store m e f g k =
     let l = form-lawful in
     let s = savedOf m in
     let ns = form .numbers s in
     let n = text-numbers m g in
-    let thing : machineWith memory store (form .thing ns) ≡ m = ap (λ (x : Saved). machineWith memory store x) (l .back s g) ∙ sym e in
+    let thing : machineWith memory bad store (form .thing ns) ≡ m = ap (λ (x : Saved). machineWith memory bad store x) (l .back s g) ∙ sym e in
     let fits : lengthFits (length memory) ≡ true = ap (λ (x : List ℕ). lengthFits (length x)) (sym f) ∙ k .fits in
-    sym (read-formed memory store (textOf m) fits ns (ap (λ (x : Numbers). x .numbers) (sym n)) (ap (λ (x : Numbers). x .formed) n))
-    ∙ sym (read-none memory store ns (l .fit s g) (ap sound thing ∙ k .is-sound) m (sym thing)
+    sym (read-formed memory bad store (textOf m) fits ns (ap (λ (x : Numbers). x .numbers) (sym n)) (ap (λ (x : Numbers). x .formed) n))
+    ∙ sym (read-none memory bad store ns (l .fit s g) (ap sound thing ∙ k .is-sound) m (sym thing)
     (ap (λ (x : Machine). x .size) thing ∙ k .size ∙ ap length f))
 
 -- the kind and the number of an answer
@@ -91,15 +91,15 @@ state-unrefused m room h =
     rows-passed (row1 (length (memoryOf m)) ∷ row3 (sound m) ∷ row4 (m .size) (length (memoryOf m)) ∷ []) (row15 (length (textOf m)) room ∷ []) refl h .0
 
 pub read-stored : ReadStored
-read-stored memory store slice s r n t e =
-    let m = machineIn memory store s r in
+read-stored memory bad store slice s r n t e =
+    let m = machineIn memory bad store s r in
     let h = served-says m slice n e in
     let k = storable m (state-unrefused m (length slice) (h .1)) in
-    (h .0, back memory store m refl refl (saved-good memory store s r t k) k)
+    (h .0, back memory bad store m refl refl (saved-good memory bad store s r t k) k)
 
 -- ---- store what was read
 
-module _ (memory store text : List ℕ) (h : readBack memory store text .refusal ≡ 0) where
+module _ (memory bad store text : List ℕ) (h : readBack memory bad store text .refusal ≡ 0) where
   abbrev ns : List ℕ
   ns = textNumbers text .numbers
 
@@ -108,24 +108,24 @@ module _ (memory store text : List ℕ) (h : readBack memory store text .refusal
     length-fits : lengthFits (length memory) ≡ true
     formed : textNumbers text .formed ≡ true
     fits : form .fits ns ≡ true
-    is-sound : sound (machineRead memory store text) ≡ true
-    size : machineRead memory store text .size ≡ length memory
+    is-sound : sound (machineRead memory bad store text) ≡ true
+    size : machineRead memory bad store text .size ≡ length memory
 
-  unrefused : readRefusal memory store text ≡ 0
+  unrefused : readRefusal memory bad store text ≡ 0
   unfolding readBack
   unrefused = h
 
   read-says : ReadSays
   unfolding readRefusal
   read-says =
-      let m = machineRead memory store text in
-      let r3 = row3 (soundRead memory store text) in
+      let m = machineRead memory bad store text in
+      let r3 = row3 (soundRead memory bad store text) in
       let r4 = row4 (m .size) (length memory) in
       let h1 = row-passed (row1 (length memory)) (row14 (textNumbers text .formed) ∷ r3 ∷ r4 ∷ []) (omega arith) unrefused in
       let h2 = row-passed (row14 (textNumbers text .formed)) (r3 ∷ r4 ∷ []) (omega arith) (h1 .1) in
       let h3 = row-passed r3 (r4 ∷ []) (omega arith) (h2 .1) in
       let h4 = row-passed r4 [] (omega arith) (h3 .1) in
-      let both = not-false (soundRead memory store text) (h3 .0) in
+      let both = not-false (soundRead memory bad store text) (h3 .0) in
       record {
         length-fits = not-false (lengthFits (length memory)) (h1 .0);
         formed = not-false (textNumbers text .formed) (h2 .0);
@@ -134,12 +134,12 @@ module _ (memory store text : List ℕ) (h : readBack memory store text .refusal
         size = eqb-true (m .size) (length memory) (not-false (eqb (m .size) (length memory)) (h4 .0));
       }
 
-  machine-is : readBack memory store text .machine ≡ machineRead memory store text
+  machine-is : readBack memory bad store text .machine ≡ machineRead memory bad store text
   unfolding readBack
-  machine-is = rw (eq-eqb (readRefusal memory store text) 0 unrefused)
+  machine-is = rw (eq-eqb (readRefusal memory bad store text) 0 unrefused)
 
   -- the text of the machine read is that text
-  text-is : textOf (machineRead memory store text) ≡ text
+  text-is : textOf (machineRead memory bad store text) ≡ text
   unfolding textOf
   text-is =
       let k = read-says in
@@ -147,13 +147,13 @@ module _ (memory store text : List ℕ) (h : readBack memory store text .refusal
       ap (λ (l : List ℕ). textBy (form .places) l) (form-lawful .again ns long (k .fits)) ∙ text-read (form .places) text (form-lawful .no-digits) (k .formed)
 
   again : (slice : List ℕ) → length text ≤ length slice
-      → stored (readBack memory store text .machine) slice ≡ storedFrom (over slice 0 text) (answer.Value (length text))
+      → stored (readBack memory bad store text .machine) slice ≡ storedFrom (over slice 0 text) (answer.Value (length text))
   again slice room =
       let k = read-says in
-      let m = machineRead memory store text in
+      let m = machineRead memory bad store text in
       let none = sym (store-none m (k .length-fits) (k .is-sound) (k .size)) in
       ap (λ (x : Machine). stored x slice) machine-is ∙ sym (stored-room m slice none)
       ∙ sym (room-enough m slice (length text) (over slice 0 text) (ap length (sym text-is)) room (ap (λ (l : List ℕ). over slice 0 l) (sym text-is)))
 
 pub stored-read : StoredRead
-stored-read memory store text slice h room = again memory store text h slice room
+stored-read memory bad store text slice h room = again memory bad store text h slice room

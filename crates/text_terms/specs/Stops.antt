@@ -28,12 +28,12 @@ use Rattle.text_terms.specs.Texts.{Typed}
 -- the contract of `sa110_store_text`: on what the caller holds and a slice it answered a code, and left the slice so
 abbrev pub Stores : Lent → List ℕ → List ℕ → ℕ → Type 0
 Stores l slice slice₁ code =
-    (store : List ℕ) → storedCode slice₁ code ≡ storedAs (machineIn (l .memory) store (l .state) (l .cp15)) slice
+    (bad store : List ℕ) → storedCode slice₁ code ≡ storedAs (machineIn (l .memory) bad store (l .state) (l .cp15)) slice
 
 -- the contract of `sa110_read_text`: on memory and a text it gave n, and wrote this state and this record
 abbrev pub Reads : List ℕ → List ℕ → State → Cp15 → ℕ → Type 0
 Reads memory text s r n =
-    (store : List ℕ) → startedOf memory store (record { state = s; cp15 = r; refusal = n }) ≡ readBack memory store text
+    (bad store : List ℕ) → startedOf memory bad store (record { state = s; cp15 = r; refusal = n }) ≡ readBack memory bad store text
 
 -- ---- one reading, one storing
 
@@ -51,7 +51,7 @@ StoredAgain =
 -- ---- a stop
 
 -- A stop: what the caller holds is stored, served with the text's length (a code below 2^32), and the text is read back, giving n. "The host keeps memory
--- and cache store itself." Of states and records it is known that they are values of their types.
+-- and cache store itself", and the map. Of states and records it is known that they are values of their types.
 pub record Stopped (l k : Lent) (n : ℕ) : Type 0 where
   pub slice : List ℕ
   pub slice₁ : List ℕ
@@ -62,6 +62,7 @@ pub record Stopped (l k : Lent) (n : ℕ) : Type 0 where
   pub places : EightPlaces (k .state)
   pub reads : Reads (l .memory) (take long slice₁) (k .state) (k .cp15) n
   pub same-memory : k .memory ≡ l .memory
+  pub same-map : k .bad ≡ l .bad
   pub same-store : k .store ≡ l .store
 
 -- the text is read, and the caller holds what it held, to the word and the byte
@@ -114,7 +115,7 @@ pub record UsedWithStops (l : Lent) (parts : List UseOrStop) : Type 0 where
   pub store-bytes : Bytes (l .store)
   pub starts : Starts l 0
   pub chain : ChainWithStops l parts
-  pub keeps : keepsRules (l .memory) (callsOf (usesIn parts)) ≡ true
+  pub keeps : keepsRules (l .memory) (l .bad) (callsOf (usesIn parts)) ≡ true
 
 abbrev pub StopsAgree : Type 0
 StopsAgree = (l : Lent) (parts : List UseOrStop) → UsedWithStops l parts → SameUses l (usesIn parts) × (lastIn l parts ≡ lastOf l (usesIn parts))

@@ -40,15 +40,15 @@ pub record Typed (s : State) (r : Cp15) : Type 0 where
   pub rows-long : (i : ℕ) → i < 8 → length (getD (bytesOf (s .slots)) i []) ≡ 16
   pub rows : (i j : ℕ) → i < 8 → getD (getD (bytesOf (s .slots)) i []) j 0 < 0x100
 
--- the text that storing serves is read back as that state and record, with that memory and any cache store
+-- the text that storing serves is read back as that state and record, with that memory, any map and any cache store
 abbrev pub ReadStored : Type 0
 ReadStored =
-    (memory store slice : List ℕ) (s : State) (r : Cp15) (n : ℕ) → Typed s r → stored (machineIn memory store s r) slice .answer ≡ answer.Value n
-    → (n ≡ length (textOf (machineIn memory store s r)))
-    × (readBack memory store (textOf (machineIn memory store s r)) ≡ startedFrom (machineIn memory store s r) 0)
+    (memory bad store slice : List ℕ) (s : State) (r : Cp15) (n : ℕ) → Typed s r → stored (machineIn memory bad store s r) slice .answer ≡ answer.Value n
+    → (n ≡ length (textOf (machineIn memory bad store s r)))
+    × (readBack memory bad store (textOf (machineIn memory bad store s r)) ≡ startedFrom (machineIn memory bad store s r) 0)
 
 -- a text that is read is the text of the machine read: stored into a slice that is long enough it is that very text
 abbrev pub StoredRead : Type 0
 StoredRead =
-    (memory store text slice : List ℕ) → readBack memory store text .refusal ≡ 0 → length text ≤ length slice
-    → stored (readBack memory store text .machine) slice ≡ storedFrom (over slice 0 text) (answer.Value (length text))
+    (memory bad store text slice : List ℕ) → readBack memory bad store text .refusal ≡ 0 → length text ≤ length slice
+    → stored (readBack memory bad store text .machine) slice ≡ storedFrom (over slice 0 text) (answer.Value (length text))

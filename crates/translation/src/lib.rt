@@ -102,12 +102,12 @@ pub fn of_walk(m: Mapping) -> Translation
 }
 
 // The plain machine's translation: it walks for every access.
-pub fn walked_only(memory: &[u8], r: Registers, va: VirtualAddress) -> Translation
+pub fn walked_only(memory: &[u8], bad: &[u8], r: Registers, va: VirtualAddress) -> Translation
     requires { ⌜ r .base % 0x4000 ≡ 0 ⌝ }
-    ensures { λ t. ⌜ Is t (spec.walkedOnly r (physical (now (memory .entry))) va) ⌝ }
+    ensures { λ t. ⌜ Is t (spec.walkedOnly r (physical (now (memory .entry)) (now (bad .entry))) va) ⌝ }
 {
     if values::mmu(r) {
-        of_walk(walk::walk(memory, r.base, va))
+        of_walk(walk::walk(memory, bad, r.base, va))
     } else {
         Translation::Flat
     }

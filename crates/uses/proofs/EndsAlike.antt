@@ -17,22 +17,22 @@ use Rattle.terms.proofs.Corollaries.{lent-runs}
 use Rattle.terms.proofs.Positions.{same-rules}
 use Rattle.uses.specs.Both.{ranFromStart, BeginAlike, EndAlike}
 
-pub ends-alike : (memory store other list answers others : List ℕ) → Bytes memory → Bytes store → All32 list
-    → (memory₁ store₁ answers₁ : List ℕ) (r : library.Ran) → ranOf memory₁ store₁ answers₁ r ≡ ranFromStart memory store list answers
-    → (other₁ others₁ : List ℕ) (p : plain.Ran) → plainLeft other₁ others₁ p ≡ plainRun other list others
-    → BeginAlike memory store other list answers others → EndAlike memory list answers memory₁ answers₁ other₁ others₁ (eqb (r .made) (p .made))
-ends-alike memory store other list answers others mb sb nb memory₁ store₁ answers₁ r e other₁ others₁ p g b =
-    let s = same-rules memory (callsMade list answers) in
-    let k : LentRun memory store list answers = record {
+pub ends-alike : (memory bad store other list answers others : List ℕ) → Bytes memory → Bytes store → All32 list
+    → (memory₁ store₁ answers₁ : List ℕ) (r : library.Ran) → ranOf memory₁ bad store₁ answers₁ r ≡ ranFromStart memory bad store list answers
+    → (other₁ others₁ : List ℕ) (p : plain.Ran) → plainLeft other₁ bad others₁ p ≡ plainRun other bad list others
+    → BeginAlike memory bad store other list answers others → EndAlike memory bad list answers memory₁ answers₁ other₁ others₁ (eqb (r .made) (p .made))
+ends-alike memory bad store other list answers others mb sb nb memory₁ store₁ answers₁ r e other₁ others₁ p g b =
+    let s = same-rules memory bad (callsMade list answers) in
+    let k : LentRun memory bad store list answers = record {
       memory-bytes = mb;
       store-bytes = sb;
       served-start = b .served-start;
       numbers = nb;
       keeps = s .rules .1 (b .keeps);
     } in
-    let t = lent-runs memory store list answers k in
-    let q : plainLeft other₁ others₁ p ≡ plainRun memory list answers =
-    g ∙ ap (λ (x : List ℕ). plainRun x list others) (sym (b .same-memory)) ∙ ap (λ (x : List ℕ). plainRun memory list x) (sym (b .same-answers)) in
+    let t = lent-runs memory bad store list answers k in
+    let q : plainLeft other₁ bad others₁ p ≡ plainRun memory bad list answers =
+    g ∙ ap (λ (x : List ℕ). plainRun x bad list others) (sym (b .same-memory)) ∙ ap (λ (x : List ℕ). plainRun memory bad list x) (sym (b .same-answers)) in
     let made : r .made ≡ p .made = ap (λ (x : Left Machine). x .made) e ∙ t .same-made ∙ sym (ap (λ (x : PlainLeft). x .left .made) q) in
     record {
       same-answers = ap (λ (x : Left Machine). x .answers) e ∙ t .same-answers ∙ sym (ap (λ (x : PlainLeft). x .left .answers) q);

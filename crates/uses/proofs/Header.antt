@@ -8,11 +8,12 @@ use Rattle.values.specs.declared.Call.{Call}
 use Rattle.trace.specs.Calls.{callOf}
 use Rattle.trace.specs.Codes.{codeOf}
 use Rattle.trace.specs.Fold.{Left, leftOf}
-use Rattle.machine.specs.Machine.{Machine, fresh}
+use Rattle.machine.specs.Machine.{Machine, fresh, badOf}
 use Rattle.step.specs.Meets.{startRefusal}
 use Rattle.step.specs.Start as starts
 use Rattle.step.specs.Run.{answers, final, run}
 use Rattle.state.specs.Held.{EightPlaces, zeroState}
+use Rattle.sa110.specs.State.{machineIn}
 use Rattle.state.proofs.Starts.{fresh-is}
 use Rattle.state.proofs.Held.{held-same}
 use Rattle.lent.specs.Coded.{Coded, calledBy, codedOf}
@@ -24,23 +25,26 @@ use Rattle.uses.proofs.Uses.{chain-is}
 
 -- two machines that are the same are held alike
 lent-same : (k l : Lent) → Eight k → Eight l → machine k ≡ machine l → SameLent k l
-lent-same k l f g e = held-same (k .memory) (k .store) (k .state) (k .cp15) (l .memory) (l .store) (l .state) (l .cp15) f g e
+lent-same k l f g e =
+    let same = ap badOf e in
+    let e₁ = ap (λ (x : List ℕ). machineIn (k .memory) x (k .store) (k .state) (k .cp15)) (sym same) ∙ e in
+    (same, held-same (l .bad) (k .memory) (k .store) (k .state) (k .cp15) (l .memory) (l .store) (l .state) (l .cp15) f g e₁)
 
 -- ---- the start
 
 module _ (l : Lent) (n : ℕ) (eight : Eight l) (e : Starts l n) where
   -- a start that leaves a fresh machine of this size
-  fresh-left : (size refusal : ℕ) → starts.started (l .memory) (l .store) ≡ starts.startedFrom (fresh size (l .memory) (l .store)) refusal
+  fresh-left : (size refusal : ℕ) → starts.started (l .memory) (l .bad) (l .store) ≡ starts.startedFrom (fresh size (l .memory) (l .bad) (l .store)) refusal
       → (l .state ≡ zeroState size) × (l .cp15 ≡ zeroCp15) × (n ≡ refusal)
   fresh-left size refusal f =
-      let left = ap (λ (x : starts.Started). x .machine) (e ∙ f) ∙ sym (fresh-is size (l .memory) (l .store)) in
+      let left = ap (λ (x : starts.Started). x .machine) (e (l .bad) ∙ f) ∙ sym (fresh-is size (l .memory) (l .bad) (l .store)) in
       let zeros : EightPlaces (zeroState size) = record { words-long = refl; slots-long = refl } in
-      let same = held-same (l .memory) (l .store) (l .state) (l .cp15) (l .memory) (l .store) (zeroState size) zeroCp15 eight zeros left in
-      (same .same-state, same .same-cp15, ap (λ (x : starts.Started). x .refusal) (e ∙ f))
+      let same = held-same (l .bad) (l .memory) (l .store) (l .state) (l .cp15) (l .memory) (l .store) (zeroState size) zeroCp15 eight zeros left in
+      (same .same-state, same .same-cp15, ap (λ (x : starts.Started). x .refusal) (e (l .bad) ∙ f))
 
   header-start : HeaderStart l n
   header-start =
-      let t = start-by-refusal (l .memory) (l .store) in
+      let t = start-by-refusal (l .memory) (l .bad) (l .store) in
       record {
         served = λ z. fresh-left (length (l .memory)) 0 (t .answered z);
         refused = λ z. fresh-left 0 (startRefusal (l .memory) (l .store)) (t .refused z);

@@ -101,14 +101,14 @@ module _ (l : Lent) (us : List Use) (h : Used l us) where
   abbrev cs : List Call
   cs = callsOf us
 
-  begun : machine l ≡ starts.started (l .memory) (l .store) .machine
-  begun = ap (λ (x : starts.Started). x .machine) (h .starts)
+  begun : machine l ≡ starts.started (l .memory) (l .bad) (l .store) .machine
+  begun = ap (λ (x : starts.Started). x .machine) (h .starts (l .bad))
 
   served-start : startRefusal (l .memory) (l .store) ≡ 0
   unfolding starts.started
-  served-start = sym (ap (λ (x : starts.Started). x .refusal) (h .starts))
+  served-start = sym (ap (λ (x : starts.Started). x .refusal) (h .starts (l .bad)))
 
-  under-rules : RunUnder (keepsRules (l .memory) cs ≡ true) (l .memory) (l .store) cs
+  under-rules : RunUnder (keepsRules (l .memory) (l .bad) cs ≡ true) (l .memory) (l .bad) (l .store) cs
   under-rules =
       record {
         memory-bytes = h .memory-bytes;
@@ -118,42 +118,42 @@ module _ (l : Lent) (us : List Use) (h : Used l us) where
         keeps = h .keeps;
       }
 
-  ended : machine (lastOf l us) ≡ library (l .memory) (l .store) cs
+  ended : machine (lastOf l us) ≡ library (l .memory) (l .bad) (l .store) cs
   ended = chain-is us l (h .chain) .1 ∙ ap (λ (m : Machine). final m cs) begun
 
   same-uses : SameUses l us
   same-uses =
-      let t = term3-printed (l .memory) (l .store) cs under-rules in
+      let t = term3-printed (l .memory) (l .bad) (l .store) cs under-rules in
       record {
         same-codes = chain-is us l (h .chain) .0 ∙ ap (λ (m : Machine). map codeOf (answers m cs)) begun ∙ ap (map codeOf) (t .same-answers);
         same-registers = ap (λ (m : Machine). m .cp15 .registers) ended ∙ t .same-registers;
         same-calls = ap (λ (m : Machine). m .counts .calls) ended ∙ t .same-calls;
-        same-line = λ k e. subst (λ (x : List ℕ). SameLine x (plain (l .memory) cs .memory) k) (sym (ap memoryOf ended)) (t .same-line k e);
+        same-line = λ k e. subst (λ (x : List ℕ). SameLine x (plain (l .memory) (l .bad) cs .memory) k) (sym (ap memoryOf ended)) (t .same-line k e);
         same-memory = λ e. ap memoryOf ended ∙ t .same-memory e;
       }
 
   -- ---- the plain machine's export
 
   module _ (list others memory₂ answers₂ : List ℕ) (p : PlainRan) (g : PlainUse l us list others memory₂ answers₂ p) where
-    plain-left : plainRanOf memory₂ answers₂ p ≡ withRefusal (leftBy (plainStart (l .memory)) cs others) 0
+    plain-left : plainRanOf memory₂ (l .bad) answers₂ p ≡ withRefusal (leftBy (plainStart (l .memory) (l .bad)) cs others) 0
     plain-left =
-        g .runs ∙ run-by (l .memory) list others (min (length list / 5) (length others)) (length-fits (l .memory) (l .store) served-start) refl
-        ∙ ap (λ (x : List Call). withRefusal (leftBy (plainStart (l .memory)) x others) 0) (g .same-list)
+        g .runs ∙ run-by (l .memory) (l .bad) list others (min (length list / 5) (length others)) (length-fits (l .memory) (l .store) served-start) refl
+        ∙ ap (λ (x : List Call). withRefusal (leftBy (plainStart (l .memory) (l .bad)) x others) 0) (g .same-list)
 
     same-exports : SameExports l us memory₂ answers₂ p
     unfolding leftOf
     same-exports =
         let s = same-uses in
         let made-is : p .made ≡ length cs = ap (λ (x : PlainLeft). x .left .made) plain-left in
-        let codes = map codeOf (plainAnswers (plainStart (l .memory)) cs) in
-        let memory-is : memory₂ ≡ plain (l .memory) cs .memory = ap (λ (x : PlainLeft). x .left .machine .memory) plain-left in
+        let codes = map codeOf (plainAnswers (plainStart (l .memory) (l .bad)) cs) in
+        let memory-is : memory₂ ≡ plain (l .memory) (l .bad) cs .memory = ap (λ (x : PlainLeft). x .left .machine .memory) plain-left in
         record {
           served = ap (λ (x : PlainLeft). x .refusal) plain-left;
           same-made = made-is;
           same-codes = s .same-codes
               ∙ sym (ap (λ (n : ℕ). take n answers₂) made-is
               ∙ ap (λ (x : List ℕ). take (length cs) x) (ap (λ (x : PlainLeft). x .left .answers) plain-left)
-              ∙ front plainNext plainAnswered (plainStart (l .memory)) cs (drop (length cs) others));
+              ∙ front plainNext plainAnswered (plainStart (l .memory) (l .bad)) cs (drop (length cs) others));
           same-registers = s .same-registers ∙ sym (ap (λ (x : PlainLeft). x .left .machine .registers) plain-left);
           same-calls = s .same-calls ∙ sym (ap (λ (x : PlainLeft). x .left .machine .calls) plain-left);
           same-line = λ k e. subst (λ (x : List ℕ). SameLine (lastOf l us .memory) x k) (sym memory-is) (s .same-line k e);

@@ -16,7 +16,8 @@ use Rattle.uses.specs.Uses.{Lent, machine, Starts, Use, one, many, Meets
 
 -- two callers hold and lend the same, to the word and the byte
 abbrev pub SameLent : Lent → Lent → Type 0
-SameLent k l = SameHeld (k .memory) (k .store) (k .state) (k .cp15) (l .memory) (l .store) (l .state) (l .cp15)
+SameLent k l = (k .bad ≡ l .bad)
+    × SameHeld (k .memory) (k .store) (k .state) (k .cp15) (l .memory) (l .store) (l .state) (l .cp15)
 
 abbrev pub Eight : Lent → Type 0
 Eight l = EightPlaces (l .state)

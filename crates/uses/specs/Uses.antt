@@ -28,16 +28,18 @@ use Rattle.terms.specs.Corollaries.{All32, callsMade}
 -- what a caller holds and lends
 pub record Lent : Type 0 where
   pub memory : List ℕ
+  pub bad : List ℕ
   pub store : List ℕ
   pub state : State
   pub cp15 : Cp15
 
 abbrev pub machine : Lent → Machine
-machine l = machineIn (l .memory) (l .store) (l .state) (l .cp15)
+machine l = machineIn (l .memory) (l .bad) (l .store) (l .state) (l .cp15)
 
--- the contract of `sa110_start`: on memory and store it gave n, and the caller holds what it wrote
+-- the contract of `sa110_start`, which is lent no map: on memory and store it gave n, and the caller holds what it wrote, with any map
 abbrev pub Starts : Lent → ℕ → Type 0
-Starts l n = startedOf (l .memory) (l .store) (record { state = l .state; cp15 = l .cp15; refusal = n }) ≡ started (l .memory) (l .store)
+Starts l n =
+    (bad : List ℕ) → startedOf (l .memory) bad (l .store) (record { state = l .state; cp15 = l .cp15; refusal = n }) ≡ started (l .memory) bad (l .store)
 
 -- ---- a use
 
@@ -54,9 +56,9 @@ left (many list answers answers₁ made k) = k
 -- the contract of `sa110_call`, and of `sa110_run`, on what the caller held
 abbrev pub Meets : Lent → Use → Type 0
 Meets l (one kind privileged n a v code k) =
-    answeredOf (k .memory) (k .store) (record { state = k .state; cp15 = k .cp15; code = code }) ≡ calledBy (machine l) kind privileged n a v
+    answeredOf (k .memory) (k .bad) (k .store) (record { state = k .state; cp15 = k .cp15; code = code }) ≡ calledBy (machine l) kind privileged n a v
 Meets l (many list answers answers₁ made k) =
-    ranOf (k .memory) (k .store) answers₁ (record { state = k .state; cp15 = k .cp15; made = made }) ≡ runs.run (machine l) list answers
+    ranOf (k .memory) (k .bad) (k .store) answers₁ (record { state = k .state; cp15 = k .cp15; made = made }) ≡ runs.run (machine l) list answers
 
 -- the numbers passed have 32 bits, as their types in code say
 abbrev pub Fits32 : Use → Type 0
@@ -75,7 +77,8 @@ codesBy (many list answers answers₁ made k) = take made answers₁
 
 -- ---- a chain of uses
 
--- R1: "each call gets state, record, memory and store as the last left them, changed by these calls only"
+-- R1: "each call gets state, record, memory and store as the last left them, changed by these calls only"; the map too, which is "unchanged through a
+-- run"
 unfoldable pub Chain : Lent → List Use → Type 0
 Chain l [] = Unit {0}
 Chain l (u ∷ us) = (Meets l u × Fits32 u) × Chain (left u) us
@@ -99,30 +102,31 @@ pub record Used (l : Lent) (us : List Use) : Type 0 where
   pub store-bytes : Bytes (l .store)
   pub starts : Starts l 0
   pub chain : Chain l us
-  pub keeps : keepsRules (l .memory) (callsOf us) ≡ true
+  pub keeps : keepsRules (l .memory) (l .bad) (callsOf us) ≡ true
 
 -- ---- term 3 of any use
 
 -- all codes put together are the plain machine's; so are the five registers and the count of calls; so is each settled line, and all of memory where
 -- it is settled
 pub record SameUses (l : Lent) (us : List Use) : Type 0 where
-  pub same-codes : codesOf us ≡ map codeOf (plainAnswers (plainStart (l .memory)) (callsOf us))
-  pub same-registers : lastOf l us .cp15 .registers ≡ plain (l .memory) (callsOf us) .registers
-  pub same-calls : lastOf l us .state .counts .calls ≡ plain (l .memory) (callsOf us) .calls
-  pub same-line : (k : ℕ) → settledLine (l .memory) (callsOf us) k ≡ true → SameLine (lastOf l us .memory) (plain (l .memory) (callsOf us) .memory) k
-  pub same-memory : settled (l .memory) (callsOf us) ≡ true → lastOf l us .memory ≡ plain (l .memory) (callsOf us) .memory
+  pub same-codes : codesOf us ≡ map codeOf (plainAnswers (plainStart (l .memory) (l .bad)) (callsOf us))
+  pub same-registers : lastOf l us .cp15 .registers ≡ plain (l .memory) (l .bad) (callsOf us) .registers
+  pub same-calls : lastOf l us .state .counts .calls ≡ plain (l .memory) (l .bad) (callsOf us) .calls
+  pub same-line : (k : ℕ) → settledLine (l .memory) (l .bad) (callsOf us) k ≡ true
+      → SameLine (lastOf l us .memory) (plain (l .memory) (l .bad) (callsOf us) .memory) k
+  pub same-memory : settled (l .memory) (l .bad) (callsOf us) ≡ true → lastOf l us .memory ≡ plain (l .memory) (l .bad) (callsOf us) .memory
 
 abbrev pub UsesAgree : Type 0
 UsesAgree = (l : Lent) (us : List Use) → Used l us → SameUses l us
 
--- the contract of `sa110_plain_run`: on memory, a list of calls and a list for answers it answered p, and left memory and answers as these
-abbrev pub PlainRuns : List ℕ → List ℕ → List ℕ → List ℕ → List ℕ → PlainRan → Type 0
-PlainRuns memory list answers memory₂ answers₂ p = plainRanOf memory₂ answers₂ p ≡ plainRun memory list answers
+-- the contract of `sa110_plain_run`: on memory, a map, a list of calls and a list for answers it answered p, and left memory and answers as these
+abbrev pub PlainRuns : List ℕ → List ℕ → List ℕ → List ℕ → List ℕ → List ℕ → PlainRan → Type 0
+PlainRuns memory bad list answers memory₂ answers₂ p = plainRanOf memory₂ bad answers₂ p ≡ plainRun memory bad list answers
 
--- it ran on the start's memory, over a list of the same calls
+-- it ran on the start's memory and map, over a list of the same calls
 pub record PlainUse (l : Lent) (us : List Use) (list answers memory₂ answers₂ : List ℕ) (p : PlainRan) : Type 0 where
   pub same-list : callsMade list answers ≡ callsOf us
-  pub runs : PlainRuns (l .memory) list answers memory₂ answers₂ p
+  pub runs : PlainRuns (l .memory) (l .bad) list answers memory₂ answers₂ p
 
 -- what it answers and leaves is what the uses answer and leave
 pub record SameExports (l : Lent) (us : List Use) (memory₂ answers₂ : List ℕ) (p : PlainRan) : Type 0 where
@@ -131,8 +135,8 @@ pub record SameExports (l : Lent) (us : List Use) (memory₂ answers₂ : List �
   pub same-codes : codesOf us ≡ take (p .made) answers₂
   pub same-registers : lastOf l us .cp15 .registers ≡ p .registers
   pub same-calls : lastOf l us .state .counts .calls ≡ p .calls
-  pub same-line : (k : ℕ) → settledLine (l .memory) (callsOf us) k ≡ true → SameLine (lastOf l us .memory) memory₂ k
-  pub same-memory : settled (l .memory) (callsOf us) ≡ true → lastOf l us .memory ≡ memory₂
+  pub same-line : (k : ℕ) → settledLine (l .memory) (l .bad) (callsOf us) k ≡ true → SameLine (lastOf l us .memory) memory₂ k
+  pub same-memory : settled (l .memory) (l .bad) (callsOf us) ≡ true → lastOf l us .memory ≡ memory₂
 
 abbrev pub ExportsAgree : Type 0
 ExportsAgree =

@@ -1,5 +1,5 @@
--- Lines, sets, tags and blocks of the two kinds of address.
-use Prim.Native.Nat.{ℕ, _/_, _%_}
+-- Lines, sets, tags, blocks and words of the two kinds of address.
+use Prim.Native.Nat.{ℕ, _+_, _*_, _/_, _%_}
 use Rattle.values.specs.declared.VirtualAddress.{VirtualAddress}
 use Rattle.values.specs.declared.PhysicalAddress.{PhysicalAddress}
 
@@ -28,6 +28,13 @@ blockOf pa = pa .0 / 16
 -- the word of four bytes that a physical address lies in
 abbrev pub wordOf : PhysicalAddress → ℕ
 wordOf pa = pa .0 / 4
+
+-- which of its line's eight words that is, and the address of its line's word n
+abbrev pub wordInLine : PhysicalAddress → ℕ
+wordInLine pa = pa .0 / 4 % 8
+
+abbrev pub wordOfLine : PhysicalAddress → ℕ → PhysicalAddress
+wordOfLine pa n = record { 0 = pa .0 / 32 * 32 + n * 4 }
 
 -- "With M clear, addresses are flat"
 abbrev pub flat : VirtualAddress → PhysicalAddress

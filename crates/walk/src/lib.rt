@@ -52,12 +52,12 @@ fn level_two(domain: u32, va: VirtualAddress, w: u32) -> Mapping
 }
 
 // A second-level table: its word for the address, or a fault.
-fn second_level(memory: &[u8], va: VirtualAddress, w: u32) -> Mapping
-    ensures { λ r. ⌜ Is r (second (walks.domainOf w) va (descriptorAt (physical (now (memory .entry))) (walks.secondAddress w va))) ⌝ }
+fn second_level(memory: &[u8], bad: &[u8], va: VirtualAddress, w: u32) -> Mapping
+    ensures { λ r. ⌜ Is r (second (walks.domainOf w) va (descriptorAt (physical (now (memory .entry)) (now (bad .entry))) (walks.secondAddress w va))) ⌝ }
 {
     let domain = w / 32 % 16;
     let at = PhysicalAddress(w / 0x400 * 0x400 + 4 * (va.0 / 0x1000 % 0x100));
-    let d = bus::descriptor_of(memory, at);
+    let d = bus::descriptor_of(memory, bad, at);
     match d {
         Descriptor::Word(v) => level_two(domain, va, v),
         Descriptor::Outside => Mapping::Failed(Status::WalkSecond, domain),
@@ -65,12 +65,12 @@ fn second_level(memory: &[u8], va: VirtualAddress, w: u32) -> Mapping
 }
 
 // The level 1 word: a second-level table, a section, or a fault.
-fn level_one(memory: &[u8], va: VirtualAddress, w: u32) -> Mapping
-    ensures { λ r. ⌜ Is r (first (physical (now (memory .entry))) va (Descriptor.Word w)) ⌝ }
+fn level_one(memory: &[u8], bad: &[u8], va: VirtualAddress, w: u32) -> Mapping
+    ensures { λ r. ⌜ Is r (first (physical (now (memory .entry)) (now (bad .entry))) va (Descriptor.Word w)) ⌝ }
 {
     let kind = w % 4;
     if kind == 1 {
-        return second_level(memory, va, w);
+        return second_level(memory, bad, va, w);
     }
     if kind == 2 {
         return Mapping::Found(Entry {
@@ -88,14 +88,14 @@ fn level_one(memory: &[u8], va: VirtualAddress, w: u32) -> Mapping
 }
 
 // The walk for a virtual address, by the table base.
-pub fn walk(memory: &[u8], base: u32, va: VirtualAddress) -> Mapping
+pub fn walk(memory: &[u8], bad: &[u8], base: u32, va: VirtualAddress) -> Mapping
     requires { ⌜ base % 0x4000 ≡ 0 ⌝ }
-    ensures { λ r. ⌜ Is r (walks.walk (physical (now (memory .entry))) base va) ⌝ }
+    ensures { λ r. ⌜ Is r (walks.walk (physical (now (memory .entry)) (now (bad .entry))) base va) ⌝ }
 {
     let at = PhysicalAddress(base + 4 * (va.0 / 0x100000));
-    let d = bus::descriptor_of(memory, at);
+    let d = bus::descriptor_of(memory, bad, at);
     match d {
-        Descriptor::Word(w) => level_one(memory, va, w),
+        Descriptor::Word(w) => level_one(memory, bad, va, w),
         Descriptor::Outside => Mapping::Failed(Status::WalkFirst, 0),
     }
 }

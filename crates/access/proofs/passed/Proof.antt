@@ -35,9 +35,9 @@ returns c =
     let value = made .before in
     let by-kind = value .before .before .before .before .before .before in
     let kinds = by-kind .before in
-    let start = kinds .before .before .before .before .before .before in
+    let start = kinds .before .before .before .before .before .before .before in
     let a = start .args in
-    let l = lists (now (a .memory)) (now (a .words)) (now (a .bytes)) (now (a .lines)) (now (a .pointers)) (now (a .store)) in
+    let l = lists (now (a .memory)) (now (a .bad)) (now (a .words)) (now (a .bytes)) (now (a .lines)) (now (a .pointers)) (now (a .store)) in
     let k = made .store-or-swap .ensures (now (a .pointers)) in
     record {
       same = λ es n. let m = machineOf l es (a .s) n in k .same es n
@@ -69,9 +69,9 @@ returns-2 c =
     let made = c .before .before .before .before .before .before .before .before .before .before in
     let by-kind = made .before .before .before .before .before .before .before in
     let kinds = by-kind .before in
-    let start = kinds .before .before .before .before .before .before in
+    let start = kinds .before .before .before .before .before .before .before in
     let a = start .args in
-    let l = lists (now (a .memory)) (now (a .words)) (now (a .bytes)) (now (a .lines)) (now (a .pointers)) (now (a .store)) in
+    let l = lists (now (a .memory)) (now (a .bad)) (now (a .words)) (now (a .bytes)) (now (a .lines)) (now (a .pointers)) (now (a .store)) in
     record {
       same = λ es n. made .load .ensures .same es n
           ∙ sym (loads-by (machineOf l es (a .s) n) (a .a) (a .p) (a .a .kind) (sym (kinds .is-store .ensures) ∙ by-kind .if1 .left));

@@ -13,7 +13,7 @@ decide-requires c κs = search needs
 commit-requires : tie.Need-commit-requires
 commit-requires c κs =
     let after-decide = c .before in
-    let start = after-decide .before .before .before .before .before .before .before .before .before .before .before in
+    let start = after-decide .before .before .before .before .before .before .before .before .before .before .before .before in
     (start .pre .1, after-decide .decide .ensures .ranged)
 
 enum-known-c : tie.Need-enum-known-c
@@ -23,9 +23,9 @@ passed-requires : tie.Need-passed-requires
 passed-requires c κs =
     let arm-c = c .before .before .before .before .before .before .before in let after-commit = arm-c .before .before .before .before in
     let after-decide = after-commit .before .before in
-    let start = after-decide .before .before .before .before .before .before .before .before .before .before .before in
+    let start = after-decide .before .before .before .before .before .before .before .before .before .before .before .before in
     let a = start .args in (
-      ready-kept _ (a .s) (lists (now (a .memory)) (now (a .words)) (now (a .bytes)) (now (a .lines)) (now (a .pointers)) (now (a .store)))
+      ready-kept _ (a .s) (lists (now (a .memory)) (now (a .bad)) (now (a .words)) (now (a .bytes)) (now (a .lines)) (now (a .pointers)) (now (a .store)))
           (after-commit .commit .ensures .1) (start .pre .2),
       start .pre .3,
       rw (arm-c .c .given .1) at (after-decide .decide .ensures .checked-ranged),
@@ -62,9 +62,9 @@ returns c =
     let after-passed = c .before .before .before .before .before .before .before .before .before .before in
     let arm-c = after-passed .before .before .before .before .before .before .before .before in
     let after-commit = arm-c .before .before .before .before in let after-decide = after-commit .before .before in
-    let start = after-decide .before .before .before .before .before .before .before .before .before .before .before in
+    let start = after-decide .before .before .before .before .before .before .before .before .before .before .before .before in
     let a = start .args in
-    let l = (lists (now (a .memory)) (now (a .words)) (now (a .bytes)) (now (a .lines)) (now (a .pointers)) (now (a .store))) in
+    let l = (lists (now (a .memory)) (now (a .bad)) (now (a .words)) (now (a .bytes)) (now (a .lines)) (now (a .pointers)) (now (a .store))) in
     let es = after-commit .commit .last .0 in (
       (λ n. after-passed .passed .ensures .same es n ∙ sym
           (access-passed (machineOf l (now (a .entries)) (a .s) n) (machineOf l es (after-commit .commit .result) n) (a .a) (after-decide .decide .result)
@@ -82,9 +82,9 @@ same-length-8 c = search needs
 returns-2 : tie.Need-returns-2
 returns-2 c =
     let arm-c2 = c .before .before in let after-commit = arm-c2 .before .before .before .before in let after-decide = after-commit .before .before in
-    let start = after-decide .before .before .before .before .before .before .before .before .before .before .before in
+    let start = after-decide .before .before .before .before .before .before .before .before .before .before .before .before in
     let a = start .args in
-    let l = (lists (now (a .memory)) (now (a .words)) (now (a .bytes)) (now (a .lines)) (now (a .pointers)) (now (a .store))) in
+    let l = (lists (now (a .memory)) (now (a .bad)) (now (a .words)) (now (a .bytes)) (now (a .lines)) (now (a .pointers)) (now (a .store))) in
     let es = after-commit .commit .last .0 in (
       (λ n. c .faulted .ensures l es n ∙ sym
           (access-denied (machineOf l (now (a .entries)) (a .s) n) (machineOf l es (after-commit .commit .result) n) (a .a) (after-decide .decide .result)

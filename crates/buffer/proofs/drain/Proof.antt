@@ -12,15 +12,15 @@ use Rattle.buffer.proofs.drain.Statement.{statement}
 use Rattle.buffer.proofs.drain.Tie as tie
 
 abbrev Inv-loop : tie.InvT-loop
-Inv-loop memory₀ words₀ used left₀ n₀ memory words left n = Fits memory words left n ×
-    (leaving n (backingOf memory words left n) ≡ leaving used (backingOf memory₀ words₀ left₀ used)) × (length memory ≡ length memory₀) ×
+Inv-loop memory₀ bad words₀ used left₀ n₀ memory words left n = Fits memory words left n ×
+    (leaving n (backingOf memory bad words left n) ≡ leaving used (backingOf memory₀ bad words₀ left₀ used)) × (length memory ≡ length memory₀) ×
     (length words ≡ length words₀)
 
 abbrev μ-loop : tie.MeasureT-loop
-μ-loop memory₀ words₀ used left₀ n₀ memory words left n = n
+μ-loop memory₀ bad words₀ used left₀ n₀ memory words left n = n
 
 loop-holds : tie.Need-loop-holds Inv-loop μ-loop
-loop-holds c = let start = c .before .before in (start .pre, refl, refl, refl)
+loop-holds c = let start = c .before .before .before in (start .pre, refl, refl, refl)
 
 slice-aggregate-oldest-leaves : tie.Need-slice-aggregate-oldest-leaves Inv-loop μ-loop
 slice-aggregate-oldest-leaves c = search needs
@@ -40,15 +40,15 @@ loop-again : tie.Need-loop-again Inv-loop μ-loop
 loop-again c = let after-oldest-leaves = c .before .before .before .before .before in
     let in-loop = after-oldest-leaves .before .before .before .before in
     let at-loop = in-loop .before in
-    let start = at-loop .before .before .before in
+    let start = at-loop .before .before .before .before in
     let a = start .args in
     let l = at-loop .loop in
     let o = after-oldest-leaves .oldest-leaves in
-    let b = backingOf (now (a .memory)) (now (a .words)) (a .bytes) (a .used) in (
+    let b = backingOf (now (a .memory)) (now (a .bad)) (now (a .words)) (a .bytes) (a .used) in (
       o .ensures .fits,
-      drain-more b (a .used) (l .memory) (l .words) (l .left) (l .n) (in-loop .loop-test .taken) _ (o .ensures .same) (l .inv .1),
+      drain-more b (a .used) (l .memory) (now (a .bad)) (l .words) (l .left) (l .n) (in-loop .loop-test .taken) _ (o .ensures .same) (l .inv .1),
       o .kept .0 ∙ l .inv .2,
-      o .kept .1 .0 ∙ l .inv .3,
+      o .kept .1 .1 .0 ∙ l .inv .3,
     )
 
 same-length : tie.Need-same-length Inv-loop μ-loop
@@ -60,15 +60,15 @@ same-length-2 c = c .before .loop .inv .3
 returns : tie.Need-returns Inv-loop μ-loop
 unfolding drained
 returns c = let at-loop = c .before in
-    let start = at-loop .before .before .before in
+    let start = at-loop .before .before .before .before in
     let a = start .args in
     let l = at-loop .loop in
-    let b = backingOf (now (a .memory)) (now (a .words)) (a .bytes) (a .used) in
+    let b = backingOf (now (a .memory)) (now (a .bad)) (now (a .words)) (a .bytes) (a .used) in
     let z : l .n ≡ 0 = omega (arith, c .loop-test .left) in
     let f : Fits (l .memory) (l .words) (l .left) 0 = subst (λ (k : ℕ). Fits (l .memory) (l .words) (l .left) k) z (l .inv .0) in
-    let g : leaving 0 (backingOf (l .memory) (l .words) (l .left) 0) ≡ leaving (a .used) b = subst
-    (λ (k : ℕ). leaving k (backingOf (l .memory) (l .words) (l .left) k) ≡ leaving (a .used) b) z (l .inv .1) in
-    record { same = drain-end b (a .used) (backingOf (l .memory) (l .words) (l .left) 0) 0 (omega arith) g; fits = f }
+    let g : leaving 0 (backingOf (l .memory) (now (a .bad)) (l .words) (l .left) 0) ≡ leaving (a .used) b = subst
+    (λ (k : ℕ). leaving k (backingOf (l .memory) (now (a .bad)) (l .words) (l .left) k) ≡ leaving (a .used) b) z (l .inv .1) in
+    record { same = drain-end b (a .used) (backingOf (l .memory) (now (a .bad)) (l .words) (l .left) 0) 0 (omega arith) g; fits = f }
 
 pub drain-spec : {M : Type 1} → statement M
 drain-spec =

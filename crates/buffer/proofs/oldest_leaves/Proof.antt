@@ -1,6 +1,8 @@
 use Rattle.buffer.proofs.Slots.{any-default}
 use Rattle.buffer.proofs.Closing.{oldest-left}
-use mathlib.Core.Path.{refl}
+use mathlib.Core.Path.{refl, _∙_, ap}
+use Prim.Native.Nat.{ℕ, _*_, _/_}
+use Rattle.buffer.specs.Buffer.{laid}
 use native.Mathlib.Omega.{arith}
 use denote.Ref.{now}
 use lib.ListN.{getD, replicate}
@@ -19,11 +21,16 @@ cast-mask : tie.Need-cast-mask
 cast-mask c = search needs
 
 mul-lay : tie.Need-mul-lay
-mul-lay c = let start = c .before .before .before .before .before in
+mul-lay c = let start = c .before .before .before .before .before .before in
+    omega (arith, start .pre .0 .inside 0 (start .pre .1))
+
+good-mask-requires : tie.Need-good-mask-requires
+good-mask-requires c κs =
+    let start = c .before .before .before .before .before .before in
     omega (arith, start .pre .0 .inside 0 (start .pre .1))
 
 lay-requires : tie.Need-lay-requires
-lay-requires c κs = let start = c .before .before .before .before .before in
+lay-requires c κs = let start = c .before .before .before .before .before .before .before in
     start .pre .0 .inside 0 (start .pre .1)
 
 close-words-requires : tie.Need-close-words-requires
@@ -45,13 +52,16 @@ returns : tie.Need-returns
 returns c = let after-close-bytes = c .before in
     let after-close-words = after-close-bytes .before .before .before .before in
     let after-lay = after-close-words .before .before .before .before in
-    let start = after-lay .before .before .before .before .before .before in
+    let after-good-mask = after-lay .before in
+    let start = after-good-mask .before .before .before .before .before .before .before in
     let a = start .args in
     let f = start .pre .0 in
     let bs = now (a .bytes) in
     rw (after-close-words .close-words .ensures, after-close-bytes .close-bytes .ensures)
-    (oldest-left (now (a .memory)) (now (a .words)) bs (a .used) f (start .pre .1) (after-lay .lay .last .0) (getD (now (a .words)) 0 0)
-    (getD bs 0 []) refl (any-default bs 0 [] (replicate 16 0) (omega (arith, f .bytes-long))) (after-lay .lay .ensures))
+    (oldest-left (now (a .memory)) (now (a .bad)) (now (a .words)) bs (a .used) f (start .pre .1) (after-lay .lay .last .0) (getD (now (a .words)) 0 0)
+    (getD bs 0 []) refl (any-default bs 0 [] (replicate 16 0) (omega (arith, f .bytes-long)))
+    (after-lay .lay .ensures ∙ ap (λ (k : ℕ). laid (now (a .memory)) (getD (now (a .words)) 0 0 / 0x100000000 * 16) k (getD bs 0 []))
+    (after-good-mask .good-mask .ensures)))
 
 pub oldest-leaves-spec : {M : Type 1} → statement M
 oldest-leaves-spec =
@@ -61,6 +71,7 @@ oldest-leaves-spec =
     slice-copy-out-b
     cast-mask
     mul-lay
+    good-mask-requires
     lay-requires
     close-words-requires
     close-bytes-requires

@@ -28,9 +28,9 @@ same-length-2 : tie.Need-same-length-2
 same-length-2 c = search needs
 
 returns : tie.Need-returns
-returns c = let start = c .before .before .before in
+returns c = let start = c .before .before .before .before in
     let a = start .args in
-    pushed-in (now (a .memory)) (now (a .words)) (now (a .bytes)) (a .used) (start .pre .0) (a .w) (a .b) (c .if1 .taken) (start .pre .1)
+    pushed-in (now (a .memory)) (now (a .bad)) (now (a .words)) (now (a .bytes)) (a .used) (start .pre .0) (a .w) (a .b) (c .if1 .taken) (start .pre .1)
 
 oldest-leaves-requires : tie.Need-oldest-leaves-requires
 oldest-leaves-requires c κs = search needs
@@ -53,12 +53,12 @@ same-length-5 c = search needs
 returns-2 : tie.Need-returns-2
 returns-2 c = let after-oldest-leaves = c .before .before .before .before .before in
     let else1 = after-oldest-leaves .before .before .before .before in
-    let start = else1 .before .before .before in
+    let start = else1 .before .before .before .before in
     let a = start .args in
     let o = after-oldest-leaves .oldest-leaves in
     let n : length (o .last .0) ≡ length (now (a .memory)) = o .kept .0 in
-    pushed-full (now (a .memory)) (now (a .words)) (now (a .bytes)) (a .used) (start .pre .0 .used-low) (else1 .if1 .left) (o .last .0)
-    (o .last .1 .0) (o .last .1 .1 .0) (o .ensures) (a .w) (a .b) (rw n (start .pre .1))
+    pushed-full (now (a .memory)) (now (a .bad)) (now (a .words)) (now (a .bytes)) (a .used) (start .pre .0 .used-low) (else1 .if1 .left) (o .last .0)
+    (o .last .1 .1 .0) (o .last .1 .1 .1 .0) (o .ensures) (a .w) (a .b) (rw n (start .pre .1))
 
 pub push-spec : {M : Type 1} → statement M
 push-spec =

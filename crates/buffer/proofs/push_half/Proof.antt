@@ -24,9 +24,9 @@ same-length-3 c = search needs
 
 returns : tie.Need-returns
 returns c = let after-push = c .before .before .before .before .before in
-    let start = after-push .before .before .before .before .before .before in
+    let start = after-push .before .before .before .before .before .before .before in
     let a = start .args in
-    half-left (now (a .memory)) (now (a .words)) (now (a .bytes)) (a .used) (a .block) (a .half) _ _ _ _ (after-push .push .ensures)
+    half-left (now (a .memory)) (now (a .bad)) (now (a .words)) (now (a .bytes)) (a .used) (a .block) (a .half) _ _ _ _ (after-push .push .ensures)
 
 pub push-half-spec : {M : Type 1} → statement M
 push-half-spec =

@@ -18,20 +18,20 @@ word-requires : tie.Need-word-requires
 word-requires c κs =
     let else1 = c .before in
     let after-aborts = else1 .before in
-    let start = after-aborts .before .before in
+    let start = after-aborts .before .before .before in
     answers _ (start .args .at) (sym (after-aborts .aborts .ensures) ∙ else1 .if1 .left)
 
 returns : tie.Need-returns
 returns c =
     let after-aborts = c .before in
-    let start = after-aborts .before .before in
+    let start = after-aborts .before .before .before in
     sym (descriptor-out _ (start .args .at) (sym (after-aborts .aborts .ensures) ∙ c .if1 .taken))
 
 returns-2 : tie.Need-returns-2
 returns-2 c =
     let else1 = c .before .before in
     let after-aborts = else1 .before in
-    let start = after-aborts .before .before in
+    let start = after-aborts .before .before .before in
     ap Word (c .word .ensures .value)
     ∙ sym (descriptor-in _ (start .args .at) (sym (after-aborts .aborts .ensures) ∙ else1 .if1 .left))
 

@@ -1,4 +1,5 @@
 use Rattle.cache.proofs.Sending.{clean-left}
+use Rattle.cache.proofs.Lines.{held-sends}
 use native.Mathlib.Omega.{arith}
 use denote.Ref.{now}
 use borrow.Author.Needs.{needs}
@@ -19,9 +20,9 @@ mul-send-halves c = search needs
 
 send-halves-requires : tie.Need-send-halves-requires
 send-halves-requires c κs = let after-line-of = c .before .before .before in
-    let start = after-line-of .before .before .before .before .before .before in
+    let start = after-line-of .before .before .before .before .before .before .before in
     let k = start .pre .1 in
-    (start .pre .0, rw (after-line-of .line-of .ensures) (k .inside), k .short, omega (arith, k .low, k .store-long))
+    (start .pre .0, rw (after-line-of .line-of .ensures) (held-sends _ (now (start .args .memory)) (k .inside)), omega (arith, k .low, k .store-long))
 
 cleaned-word-requires : tie.Need-cleaned-word-requires
 cleaned-word-requires c κs = search needs
@@ -51,9 +52,9 @@ returns : tie.Need-returns
 returns c = let after-cleaned-word = c .before in
     let after-send-halves = after-cleaned-word .before .before .before .before .before .before in
     let after-line-of = after-send-halves .before .before .before .before in
-    let start = after-line-of .before .before .before .before .before .before in
+    let start = after-line-of .before .before .before .before .before .before .before in
     let a = start .args in
-    λ ps. clean-left (now (a .memory)) (now (a .words)) (now (a .bytes)) (a .used) (now (a .lines)) ps (now (a .store)) (a .i)
+    λ ps. clean-left (now (a .memory)) (now (a .bad)) (now (a .words)) (now (a .bytes)) (a .used) (now (a .lines)) ps (now (a .store)) (a .i)
     (after-line-of .line-of .result) (after-line-of .line-of .ensures) _ _ _ _ (after-send-halves .send-halves .ensures)
     (after-cleaned-word .cleaned-word .result) (c .dirty-halves .result) (after-cleaned-word .cleaned-word .ensures) (c .dirty-halves .ensures)
 

@@ -1,3 +1,5 @@
+use Rattle.values.proofs.Cases.{or-left, or-right}
+use native.Mathlib.Omega.{arith}
 use Rattle.cache.specs.Dcache.{halvesSent}
 use borrow.Author.Needs.{needs}
 use Rattle.cleans.proofs.send_halves.Statement.{statement}
@@ -7,7 +9,11 @@ mul-send-half : tie.Need-mul-send-half
 mul-send-half c = search needs
 
 send-half-requires : tie.Need-send-half-requires
-send-half-requires c κs = search needs
+send-half-requires c κs =
+    let start = c .before .before .before .before .before .before .before .before in
+    let l = start .args .l in
+    let k = start .pre .1 in
+    (start .pre .0, (λ t. let h = k .dirty-inside (or-left (l .low) (l .high) t) in omega arith), omega (arith, start .pre .2))
 
 mul-send-half-2 : tie.Need-mul-send-half-2
 mul-send-half-2 c = search needs
@@ -19,7 +25,15 @@ add-send-half-2 : tie.Need-add-send-half-2
 add-send-half-2 c = search needs
 
 send-half-requires-2 : tie.Need-send-half-requires-2
-send-half-requires-2 c κs = search needs
+send-half-requires-2 c κs =
+    let after-send-half = c .before .before .before .before .before .before .before .before .before in
+    let start = after-send-half .before .before .before .before .before .before .before .before .before in
+    let l = start .args .l in
+    let k = start .pre .1 in (
+      after-send-half .send-half .ensures .fits,
+      (λ t. let h = k .dirty-inside (or-right (l .low) (l .high) t) in omega (arith, after-send-half .send-half .kept .0)),
+      omega (arith, start .pre .2),
+    )
 
 same-length : tie.Need-same-length
 same-length c = search needs

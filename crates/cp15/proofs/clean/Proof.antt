@@ -18,7 +18,7 @@ enum-known-found c = search needs
 clean-line-requires : tie.Need-clean-line-requires
 clean-line-requires c κs =
     let arm-found = c .before .before .before .before .before in let after-find = arm-found .before .before in
-    let start = after-find .before .before .before .before .before .before in
+    let start = after-find .before .before .before .before .before .before .before in
     let a = start .args in (
       start .pre .1 .fits,
       can-clean (now (a .memory)) (now (a .words)) (now (a .bytes)) (now (a .lines)) (now (a .store))
@@ -29,10 +29,10 @@ sent-requires : tie.Need-sent-requires
 sent-requires c κs =
     let after-clean-line = c .before .before .before .before .before .before in
     let arm-found = after-clean-line .before .before .before .before .before .before in let after-find = arm-found .before .before in
-    let start = after-find .before .before .before .before .before .before in
+    let start = after-find .before .before .before .before .before .before .before in
     let a = start .args in
     let e = sym (after-find .find .ensures) ∙ arm-found .found .given .1 in
-    clean-room (now (a .memory)) (now (a .words)) (now (a .bytes)) (now (a .lines)) (now (a .store)) [] (a .s) _ _ (start .pre .1)
+    clean-room (now (a .memory)) (now (a .bad)) (now (a .words)) (now (a .bytes)) (now (a .lines)) (now (a .store)) [] (a .s) _ _ (start .pre .1)
     (found (linesOf (now (a .lines))) (a .va) _ e .low) (after-clean-line .clean-line .ensures [] .count)
 
 with-used-requires : tie.Need-with-used-requires
@@ -54,10 +54,11 @@ returns : tie.Need-returns
 returns c =
     let after-sent = c .before in let after-clean-line = after-sent .before .before .before .before .before .before .before in
     let arm-found = after-clean-line .before .before .before .before .before .before in let after-find = arm-found .before .before in
-    let start = after-find .before .before .before .before .before .before in
+    let start = after-find .before .before .before .before .before .before .before in
     let a = start .args in
     λ ps. record {
-      same = λ es n. clean-left es (a .s) n (lists (now (a .memory)) (now (a .words)) (now (a .bytes)) (now (a .lines)) ps (now (a .store))) (a .va) _
+      same = λ es n. clean-left es (a .s) n (lists (now (a .memory)) (now (a .bad)) (now (a .words)) (now (a .bytes)) (now (a .lines)) ps (now (a .store)))
+          (a .va) _
           _ _ _ _ (sym (after-find .find .ensures) ∙ arm-found .found .given .1) (after-clean-line .clean-line .ensures ps)
           (rw (after-sent .sent .ensures) at (c .with-used .ensures));
       bytes-long = after-clean-line .clean-line .ensures [] .fits .bytes-long;
@@ -68,10 +69,11 @@ same-length-4 c = search needs
 
 returns-2 : tie.Need-returns-2
 returns-2 c =
-    let after-find = c .before .before in let start = after-find .before .before .before .before .before .before in
+    let after-find = c .before .before in let start = after-find .before .before .before .before .before .before .before in
     let a = start .args in
     λ ps. record {
-      same = λ es n. none-clean es (a .s) n (lists (now (a .memory)) (now (a .words)) (now (a .bytes)) (now (a .lines)) ps (now (a .store))) (a .va)
+      same = λ es n. none-clean es (a .s) n (lists (now (a .memory)) (now (a .bad)) (now (a .words)) (now (a .bytes)) (now (a .lines)) ps (now (a .store)))
+          (a .va)
           (sym (after-find .find .ensures) ∙ c .enum-told .given .1);
       bytes-long = start .pre .1 .fits .bytes-long;
     }

@@ -26,14 +26,15 @@ returns : tie.Need-returns
 unfolding allFlushed
 returns c =
     let after-flush = c .before .before in let then1 = after-flush .before .before in let after-is-flush = then1 .before in
-    let start = after-is-flush .before .before .before .before .before in
+    let start = after-is-flush .before .before .before .before .before .before in
     let a = start .args in
     let f : (isPair (a .t) 0 7 || isPair (a .t) 0 6) ≡ true = sym (after-is-flush .is-flush .ensures) ∙ then1 .if1 .taken in
     λ ps. record {
       same = λ es n. ap (λ (x : List Line). withCache (machineOf
-          (lists (now (a .memory)) (now (a .words)) (now (a .bytes)) (now (a .lines)) ps (now (a .store))) es (a .s) n)
+          (lists (now (a .memory)) (now (a .bad)) (now (a .words)) (now (a .bytes)) (now (a .lines)) ps (now (a .store))) es (a .s) n)
           (dcacheFrom x ps (now (a .store)))) (after-flush .flush .ensures)
-          ∙ sym (seven-flush (machineOf (lists (now (a .memory)) (now (a .words)) (now (a .bytes)) (now (a .lines)) ps (now (a .store))) es (a .s) n)
+          ∙ sym (seven-flush (machineOf (lists (now (a .memory)) (now (a .bad)) (now (a .words)) (now (a .bytes)) (now (a .lines)) ps (now (a .store))) es
+          (a .s) n)
           (a .t) (a .va) (start .pre .0) f);
       bytes-long = start .pre .2 .fits .bytes-long;
     }
@@ -50,15 +51,16 @@ same-length-2 c = search needs
 returns-2 : tie.Need-returns-2
 returns-2 c =
     let after-flush-line = c .before .before in let then2 = after-flush-line .before .before in let after-is-pair = then2 .before in
-    let else1 = after-is-pair .before in let after-is-flush = else1 .before in let start = after-is-flush .before .before .before .before .before in
+    let else1 = after-is-pair .before in let after-is-flush = else1 .before in let start = after-is-flush .before .before .before .before .before .before in
     let a = start .args in
     let f : (isPair (a .t) 0 7 || isPair (a .t) 0 6) ≡ false = sym (after-is-flush .is-flush .ensures) ∙ else1 .if1 .left in
     let g : isPair (a .t) 1 6 ≡ true = sym (after-is-pair .is-pair .ensures) ∙ then2 .if2 .taken in
     λ ps. record {
       same = λ es n. ap (λ (x : Dcache). withCache (machineOf
-          (lists (now (a .memory)) (now (a .words)) (now (a .bytes)) (now (a .lines)) ps (now (a .store))) es (a .s) n) x)
+          (lists (now (a .memory)) (now (a .bad)) (now (a .words)) (now (a .bytes)) (now (a .lines)) ps (now (a .store))) es (a .s) n) x)
           (after-flush-line .flush-line .ensures ps (now (a .store))) ∙ sym
-          (seven-line (machineOf (lists (now (a .memory)) (now (a .words)) (now (a .bytes)) (now (a .lines)) ps (now (a .store))) es (a .s) n) (a .t)
+          (seven-line (machineOf (lists (now (a .memory)) (now (a .bad)) (now (a .words)) (now (a .bytes)) (now (a .lines)) ps (now (a .store))) es
+          (a .s) n) (a .t)
           (a .va) (start .pre .0) f g);
       bytes-long = start .pre .2 .fits .bytes-long;
     }
@@ -82,14 +84,15 @@ returns-3 : tie.Need-returns-3
 returns-3 c =
     let after-clean = c .before .before .before .before .before .before in let then3 = after-clean .before .before .before .before .before in
     let after-is-pair2 = then3 .before in let else2 = after-is-pair2 .before in let after-is-pair = else2 .before in
-    let else1 = after-is-pair .before in let after-is-flush = else1 .before in let start = after-is-flush .before .before .before .before .before in
+    let else1 = after-is-pair .before in let after-is-flush = else1 .before in let start = after-is-flush .before .before .before .before .before .before in
     let a = start .args in
     let f : (isPair (a .t) 0 7 || isPair (a .t) 0 6) ≡ false = sym (after-is-flush .is-flush .ensures) ∙ else1 .if1 .left in
     let g : isPair (a .t) 1 6 ≡ false = sym (after-is-pair .is-pair .ensures) ∙ else2 .if2 .left in
     let h : isPair (a .t) 1 10 ≡ true = sym (after-is-pair2 .is-pair2 .ensures) ∙ then3 .if3 .taken in
     λ ps. record {
       same = λ es n. after-clean .clean .ensures ps .same es n ∙ sym
-          (seven-clean (machineOf (lists (now (a .memory)) (now (a .words)) (now (a .bytes)) (now (a .lines)) ps (now (a .store))) es (a .s) n) (a .t)
+          (seven-clean (machineOf (lists (now (a .memory)) (now (a .bad)) (now (a .words)) (now (a .bytes)) (now (a .lines)) ps (now (a .store))) es
+          (a .s) n) (a .t)
           (a .va) (start .pre .0) f g h);
       bytes-long = after-clean .clean .ensures ps .bytes-long;
     }
@@ -111,15 +114,15 @@ returns-4 c =
     let after-drain = c .before .before .before .before in let then4 = after-drain .before .before .before .before in
     let after-is-pair3 = then4 .before in let else3 = after-is-pair3 .before in let after-is-pair2 = else3 .before in
     let else2 = after-is-pair2 .before in let after-is-pair = else2 .before in let else1 = after-is-pair .before in
-    let after-is-flush = else1 .before in let start = after-is-flush .before .before .before .before .before in
+    let after-is-flush = else1 .before in let start = after-is-flush .before .before .before .before .before .before in
     let a = start .args in
     let f : (isPair (a .t) 0 7 || isPair (a .t) 0 6) ≡ false = sym (after-is-flush .is-flush .ensures) ∙ else1 .if1 .left in
     let g : isPair (a .t) 1 6 ≡ false = sym (after-is-pair .is-pair .ensures) ∙ else2 .if2 .left in
     let h : isPair (a .t) 1 10 ≡ false = sym (after-is-pair2 .is-pair2 .ensures) ∙ else3 .if3 .left in
     let i : isPair (a .t) 4 10 ≡ true = sym (after-is-pair3 .is-pair3 .ensures) ∙ then4 .if4 .taken in
     let d = after-drain .drain in
-    λ ps. let l = lists (now (a .memory)) (now (a .words)) (now (a .bytes)) (now (a .lines)) ps (now (a .store)) in record {
-      same = λ es n. drain-left es (a .s) _ n l (d .last .0) (d .last .1 .0) (d .last .1 .1 .0) (d .ensures .0) (d .ensures .1)
+    λ ps. let l = lists (now (a .memory)) (now (a .bad)) (now (a .words)) (now (a .bytes)) (now (a .lines)) ps (now (a .store)) in record {
+      same = λ es n. drain-left es (a .s) _ n l (d .last .0) (d .last .1 .1 .0) (d .last .1 .1 .1 .0) (d .ensures .0) (d .ensures .1)
           ∙ sym (seven-drain (machineOf l es (a .s) n) (a .t) (a .va) (start .pre .0) f g h i);
       bytes-long = d .ensures .1 .fits .bytes-long;
     }
@@ -128,14 +131,15 @@ returns-5 : tie.Need-returns-5
 returns-5 c =
     let after-is-pair3 = c .before in let else3 = after-is-pair3 .before in let after-is-pair2 = else3 .before in
     let else2 = after-is-pair2 .before in let after-is-pair = else2 .before in let else1 = after-is-pair .before in
-    let after-is-flush = else1 .before in let start = after-is-flush .before .before .before .before .before in
+    let after-is-flush = else1 .before in let start = after-is-flush .before .before .before .before .before .before in
     let a = start .args in
     let f : (isPair (a .t) 0 7 || isPair (a .t) 0 6) ≡ false = sym (after-is-flush .is-flush .ensures) ∙ else1 .if1 .left in
     let g : isPair (a .t) 1 6 ≡ false = sym (after-is-pair .is-pair .ensures) ∙ else2 .if2 .left in
     let h : isPair (a .t) 1 10 ≡ false = sym (after-is-pair2 .is-pair2 .ensures) ∙ else3 .if3 .left in
     let i : isPair (a .t) 4 10 ≡ false = sym (after-is-pair3 .is-pair3 .ensures) ∙ c .if4 .left in
     λ ps. record {
-      same = λ es n. sym (seven-nothing (machineOf (lists (now (a .memory)) (now (a .words)) (now (a .bytes)) (now (a .lines)) ps (now (a .store))) es
+      same = λ es n. sym (seven-nothing (machineOf (lists (now (a .memory)) (now (a .bad)) (now (a .words)) (now (a .bytes)) (now (a .lines)) ps
+          (now (a .store))) es
           (a .s) n) (a .t) (a .va) (start .pre .0) f g h i);
       bytes-long = start .pre .2 .fits .bytes-long;
     }

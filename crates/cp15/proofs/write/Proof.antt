@@ -30,12 +30,13 @@ returns : tie.Need-returns
 returns c =
     let after-operate = c .before .before .before .before .before .before .before .before .before in
     let after-written = after-operate .before .before .before .before .before .before in
-    let start = after-written .before .before .before .before .before .before .before in
+    let start = after-written .before .before .before .before .before .before .before .before in
     let a = start .args in
     let o = after-operate .operate .last in (
-      (λ ps n. write-left (now (a .entries)) (o .1 .1 .1 .1 .1 .0) (a .s) (after-operate .operate .result) n
-          (lists (now (a .memory)) (now (a .words)) (now (a .bytes)) (now (a .lines)) ps (now (a .store)))
-          (lists (o .0) (o .1 .0) (o .1 .1 .0) (o .1 .1 .1 .0) ps (now (a .store))) (a .t) (a .v) _ _ (after-operate .operate .ensures .0 ps n)
+      (λ ps n. write-left (now (a .entries)) (o .1 .1 .1 .1 .1 .1 .0) (a .s) (after-operate .operate .result) n
+          (lists (now (a .memory)) (now (a .bad)) (now (a .words)) (now (a .bytes)) (now (a .lines)) ps (now (a .store)))
+          (lists (o .0) (now (a .bad)) (o .1 .1 .0) (o .1 .1 .1 .0) (o .1 .1 .1 .1 .0) ps (now (a .store))) (a .t) (a .v) _ _
+          (after-operate .operate .ensures .0 ps n)
           (after-written .written .ensures) (c .with-registers .ensures)),
       after-operate .operate .ensures .1,
     )

@@ -1,76 +1,59 @@
-use Rattle.cache.specs.Dcache.{copied}
-use Rattle.cache.proofs.Copies.{copy-start, copy-step}
+use Rattle.cache.proofs.Copies.{copy-start}
 use mathlib.Core.Path.{_≡_, refl, _∙_, ap}
 use native.Mathlib.Omega.{arith}
 use denote.Ref.{now}
-use Prim.Native.Nat.{ℕ, _-_, _≤_}
-use lib.ListN.{length, length-set}
+use Prim.Native.Nat.{ℕ, _+_}
+use lib.ListN.{take, drop}
 use borrow.Author.Needs.{needs}
 use Rattle.fills.proofs.read_line.Statement.{statement}
 use Rattle.fills.proofs.read_line.Tie as tie
 
-abbrev Inv-loop : tie.InvT-loop
-Inv-loop store₀ at memory from i₀ store i = (i ≤ 32) × (length store ≡ length store₀) × (store ≡ copied store₀ at memory from i)
+half-at-requires : tie.Need-half-at-requires
+half-at-requires c κs = search needs
 
-abbrev μ-loop : tie.MeasureT-loop
-μ-loop store₀ at memory from i₀ store i = 32 - i
+add-half-at : tie.Need-add-half-at
+add-half-at c = search needs
 
-loop-holds : tie.Need-loop-holds Inv-loop μ-loop
-loop-holds c = let a = c .args in (search needs, refl, copy-start (now (a .store)) (a .at) (now (a .memory)) (a .from))
+half-at-requires-2 : tie.Need-half-at-requires-2
+half-at-requires-2 c κs = search needs
 
-add-store : tie.Need-add-store Inv-loop μ-loop
-add-store c = search needs
+put-half-requires : tie.Need-put-half-requires
+put-half-requires c κs = search needs
 
-shared-slice-read-store : tie.Need-shared-slice-read-store Inv-loop μ-loop
-shared-slice-read-store c = search needs
+add-put-half : tie.Need-add-put-half
+add-put-half c = search needs
 
-add-store-2 : tie.Need-add-store-2 Inv-loop μ-loop
-add-store-2 c = search needs
+put-half-requires-2 : tie.Need-put-half-requires-2
+put-half-requires-2 c κs = search needs
 
-slice-write-store : tie.Need-slice-write-store Inv-loop μ-loop
-slice-write-store c = search needs
+same-length : tie.Need-same-length
+same-length c = search needs
 
-add-i : tie.Need-add-i Inv-loop μ-loop
-add-i c = search needs
-
-loop-less : tie.Need-loop-less Inv-loop μ-loop
-loop-less c = search needs
-
-loop-again : tie.Need-loop-again Inv-loop μ-loop
-loop-again c = let at-loop = c .before .before in
-    let start = at-loop .before in
+returns : tie.Need-returns
+returns c =
+    let after-high = c .before .before in
+    let after-low = after-high .before .before .before .before in
+    let high = after-low .before .before in
+    let low = high .before in
+    let start = low .before .before .before in
     let a = start .args in
-    let l = at-loop .loop in (
-      omega arith,
-      simp length-set (l .inv .1),
-      copy-step (now (a .store)) (a .at) (now (a .memory)) (a .from) (l .store) (l .i) (l .inv .2)
-          (omega arith) (omega arith),
-    )
-
-same-length : tie.Need-same-length Inv-loop μ-loop
-same-length c = c .before .loop .inv .1
-
-returns : tie.Need-returns Inv-loop μ-loop
-returns c = let at-loop = c .before in
-    let start = at-loop .before in
-    let l = at-loop .loop in
-    let e : l .i ≡ 32 = omega (arith, c .loop-test .left, l .inv .0) in
-    let a = start .args in
-    l .inv .2 ∙ ap (λ (k : ℕ). copied (now (a .store)) (a .at) (now (a .memory)) (a .from) k) e
+    let s = now (a .store) in
+    let m = now (a .memory) in
+    let i : a .at ≡ a .at + 0 = omega arith in
+    let j : a .from ≡ a .from + 0 = omega arith in
+    let first = after-low .put-half .ensures s (a .at) m (a .from) 0 (copy-start s (a .at) m (a .from)) i
+    (low .half-at .ensures ∙ ap (λ (x : ℕ). take 16 (drop x m)) j) (omega (arith, start .pre .0)) (omega (arith, start .pre .1)) in
+    after-high .put-half2 .ensures s (a .at) m (a .from) 16 first refl (high .half-at2 .ensures) (omega (arith, start .pre .0)) (omega (arith, start .pre .1))
 
 pub read-line-spec : {M : Type 1} → statement M
 read-line-spec =
     tie.close
     (tie.spec
-    Inv-loop
-    μ-loop
-    loop-holds
-    add-store
-    shared-slice-read-store
-    add-store-2
-    slice-write-store
-    add-i
-    loop-less
-    loop-again
+    half-at-requires
+    add-half-at
+    half-at-requires-2
+    put-half-requires
+    add-put-half
+    put-half-requires-2
     same-length
     returns)

@@ -26,7 +26,7 @@ returns c = let start = c .before .before .before .before .before .before .befor
     let a = start .args in
     let cp = c .before .before .before .copy in
     let le = c .before .before .before .before .before .least in
-    λ memory store. put-out-is (heldOf memory store (a .replay)) (now (a .bytes)) (now (a .out)) _ _ (a .n) (le .result) (a .taken) (search needs) (le
+    λ memory bad store. put-out-is (heldOf memory bad store (a .replay)) (now (a .bytes)) (now (a .out)) _ _ (a .n) (le .result) (a .taken) (search needs) (le
     .ensures) (cp .ensures) (c .padded .ensures)
 
 pub put-out-spec : {M : Type 1} → statement M

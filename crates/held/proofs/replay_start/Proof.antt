@@ -12,7 +12,7 @@ start-requires c κs = search needs
 returns : tie.Need-returns
 returns c = let a = c .before .before .before .before .before .args in
     let s = c .before .before .start in
-    start-is (now (a .memory)) (now (a .store)) (startedOf (now (a .memory)) (now (a .store)) (s .result)) (s .ensures)
+    λ bad. start-is (now (a .memory)) bad (now (a .store)) (startedOf (now (a .memory)) bad (now (a .store)) (s .result)) (s .ensures bad)
 
 pub replay-start-spec : {M : Type 1} → statement M
 replay-start-spec = tie.close (tie.spec start-requires returns)

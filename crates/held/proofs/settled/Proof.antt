@@ -21,7 +21,7 @@ add-r-2 c = search needs
 
 returns : tie.Need-returns
 returns c = let a = c .before .before .before .before .before .args in
-    λ memory store. settled-departing (machineIn memory store (a .b .state) (a .b .cp15)) (a .lines) (a .b .made) (a .b .verdict) (drop (a .b .end)
+    λ memory bad store. settled-departing (machineIn memory bad store (a .b .state) (a .b .cp15)) (a .lines) (a .b .made) (a .b .verdict) (drop (a .b .end)
     (now (a .text))) (c .if1 .taken)
 
 padded-requires : tie.Need-padded-requires
@@ -36,13 +36,13 @@ returns-2 : tie.Need-returns-2
 returns-2 c = let then2 = c .before .before in
     let a = c .before .before .before .before .before .before .before .before .before .args in
     let behind = drop (a .b .end) (now (a .text)) in
-    λ memory store. settled-open (machineIn memory store (a .b .state) (a .b .cp15)) (a .lines) (a .b .made) (a .b .verdict) behind _ _ (then2 .if2
+    λ memory bad store. settled-open (machineIn memory bad store (a .b .state) (a .b .cp15)) (a .lines) (a .b .made) (a .b .verdict) behind _ _ (then2 .if2
     .taken) (sym (length-drop (a .b .end) (now (a .text)))) (c .before .padded .ensures ∙ ap padded (to-end (now (a .text)) (a .b .end)))
 
 returns-3 : tie.Need-returns-3
 returns-3 c = let else1 = c .before .before in
     let a = c .before .before .before .before .before .before .before .args in
-    λ memory store. settled-more (machineIn memory store (a .b .state) (a .b .cp15)) (a .lines) (a .b .made) (a .b .verdict) (drop (a .b .end) (now (a
+    λ memory bad store. settled-more (machineIn memory bad store (a .b .state) (a .b .cp15)) (a .lines) (a .b .made) (a .b .verdict) (drop (a .b .end) (now (a
     .text))) (else1 .if1 .left) (c .if2 .left)
 
 pub settled-spec : {M : Type 1} → statement M

@@ -9,8 +9,8 @@ shown-requires : tie.Need-shown-requires
 shown-requires c κs = search needs
 
 part-code-requires : tie.Need-part-code-requires
-part-code-requires c κs = let start = c .before .before .before in
-    let a = start .args in part-low (machineIn (now (a .memory)) (now (a .store)) (a .state) (a .cp15)) _ _ (c .shown .ensures)
+part-code-requires c κs = let start = c .before .before .before .before in
+    let a = start .args in part-low (machineIn (now (a .memory)) (now (a .bad)) (now (a .store)) (a .state) (a .cp15)) _ _ (c .shown .ensures)
 
 returns : tie.Need-returns
 returns c = rw (← c .before .shown .ensures) (c .part-code .ensures)

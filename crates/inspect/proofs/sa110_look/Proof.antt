@@ -105,19 +105,22 @@ use Rattle.inspect.proofs.sa110_look.Statement as stated
 use Rattle.inspect.proofs.sa110_look.Code as code
 use Rattle.inspect.proofs.Borrows.{look-lent}
 
-abbrev state-slot : Slot 4
+abbrev state-slot : Slot 5
 state-slot = shrRefTo (0 ∷ []) tt (plain (λ _. S.the-row))
 
-abbrev cp15-slot : Slot 4
+abbrev cp15-slot : Slot 5
 cp15-slot = shrRefTo (1 ∷ []) tt (plain (λ _. T.the-row))
 
-abbrev memory-slot : Slot 4
+abbrev memory-slot : Slot 5
 memory-slot = shrSliceOf (2 ∷ []) tt (plain (λ _. u8))
 
-abbrev store-slot : Slot 4
-store-slot = shrSliceOf (3 ∷ []) tt (plain (λ _. u8))
+abbrev bad-slot : Slot 5
+bad-slot = shrSliceOf (3 ∷ []) tt (plain (λ _. u8))
 
-abbrev number : Slot 4
+abbrev store-slot : Slot 5
+store-slot = shrSliceOf (4 ∷ []) tt (plain (λ _. u8))
+
+abbrev number : Slot 5
 number = plain (λ _. u32)
 
 -- at the exit: nothing is had of the parameters
@@ -126,7 +129,7 @@ stayed = (
   stay-dropped state-slot yes,
   (
     stay-dropped cp15-slot yes,
-    (stay-dropped memory-slot yes, (stay-dropped store-slot yes, (stay-dropped number yes, tt))),
+    (stay-dropped memory-slot yes, (stay-dropped bad-slot yes, (stay-dropped store-slot yes, (stay-dropped number yes, tt)))),
   ),
 )
 
@@ -136,145 +139,163 @@ module _ {M : Type 1} (𝓤 : URA M) (H : Heap 𝓤) (A : Atoms 𝓤) (at-mem : 
   Value = tripleOf 𝓤 H A g.signature (g.spec 𝓤 H A at-mem run)
 
 module _ {M : Type 1} (𝓤 : URA M) (H : Heap 𝓤) (A : Atoms 𝓤) (W : Given 𝓤 H A) (at-mem : Memory → SProp 𝓤) (run : Routine → Fun 𝓤)
-    (κ₀ κ₁ κ₂ κ₃ : Lft) (q₀ q₁ q₂ q₃ : Share) (bounds : AllOutlive 4 (f.signature .outlives) (κ₀, (κ₁, (κ₂, (κ₃, tt)))))
-    (state : RefT State) (cp15 : RefT Cp15) (memory store : RefT (List ℕ)) (va : ℕ) where
-  abbrev x : RefT State × (RefT Cp15 × (RefT (List ℕ) × (RefT (List ℕ) × (ℕ × Unit {0}))))
-  x = (state, (cp15, (memory, (store, (va, tt)))))
+    (κ₀ κ₁ κ₂ κ₃ κ₄ : Lft) (q₀ q₁ q₂ q₃ q₄ : Share) (bounds : AllOutlive 5 (f.signature .outlives) (κ₀, (κ₁, (κ₂, (κ₃, (κ₄, tt))))))
+    (state : RefT State) (cp15 : RefT Cp15) (memory bad store : RefT (List ℕ)) (va : ℕ) where
+  abbrev x : RefT State × (RefT Cp15 × (RefT (List ℕ) × (RefT (List ℕ) × (RefT (List ℕ) × (ℕ × Unit {0})))))
+  x = (state, (cp15, (memory, (bad, (store, (va, tt))))))
 
   -- the machine values of the slices
   abbrev memory-val : Val
   memory-val = sliceVal (memory .ptr) (length (memory .now))
 
+  abbrev bad-val : Val
+  bad-val = sliceVal (bad .ptr) (length (bad .now))
+
   abbrev store-val : Val
   store-val = sliceVal (store .ptr) (length (store .now))
 
-  abbrev at : List Val × (List Val × (List Val × (List Val × (List Val × Unit {0}))))
-  at = (ptr-vals state, (ptr-vals cp15, (memory-val ∷ [], (store-val ∷ [], (vint w32 va ∷ [], tt)))))
+  abbrev at : List Val × (List Val × (List Val × (List Val × (List Val × (List Val × Unit {0})))))
+  at = (ptr-vals state, (ptr-vals cp15, (memory-val ∷ [], (bad-val ∷ [], (store-val ∷ [], (vint w32 va ∷ [], tt))))))
 
   abbrev Post : Val → SProp 𝓤
-  Post = walkOf 𝓤 H A f.ended stayed (f.clauses 𝓤 H A at-mem run) .post (((κ₀, (κ₁, (κ₂, (κ₃, tt)))), (q₀, (q₁, (q₂, (q₃, tt)))), bounds, x, at), tt)
+  Post = walkOf 𝓤 H A f.ended stayed (f.clauses 𝓤 H A at-mem run) .post
+      (((κ₀, (κ₁, (κ₂, (κ₃, (κ₄, tt))))), (q₀, (q₁, (q₂, (q₃, (q₄, tt))))), bounds, x, at), tt)
 
   -- what the contract says of the result
   abbrev Says : ℕ → Type 0
-  Says y = y ≡ lookCode (machineIn (memory .now) (store .now) (state .now) (cp15 .now)) va
+  Says y = y ≡ lookCode (machineIn (memory .now) (bad .now) (store .now) (state .now) (cp15 .now)) va
 
   -- what the callee is passed, and what it asks
-  abbrev args : State × (Cp15 × (RefT (List ℕ) × (RefT (List ℕ) × (ℕ × Unit {0}))))
-  args = (state .now, (cp15 .now, (memory, (store, (va, tt)))))
+  abbrev args : State × (Cp15 × (RefT (List ℕ) × (RefT (List ℕ) × (RefT (List ℕ) × (ℕ × Unit {0})))))
+  args = (state .now, (cp15 .now, (memory, (bad, (store, (va, tt))))))
 
   abbrev to : Value 𝓤 H A at-mem run .Ghost
   to = (
     (
-      (κ₂, (κ₃, tt)),
-      (q₂, (q₃, tt)),
+      (κ₂, (κ₃, (κ₄, tt))),
+      (q₂, (q₃, (q₄, tt))),
       tt,
       args,
       (
         LL.vals S.the-type S′.the-laws (state .now),
-        (LL.vals T.the-type T′.the-laws (cp15 .now), (memory-val ∷ [], (store-val ∷ [], (vint w32 va ∷ [], tt)))),
+        (LL.vals T.the-type T′.the-laws (cp15 .now), (memory-val ∷ [], (bad-val ∷ [], (store-val ∷ [], (vint w32 va ∷ [], tt))))),
       ),
     ),
     tt,
   )
 
   goes : Is S.the-row (state .now) (LL.vals S.the-type S′.the-laws (state .now)) → Is T.the-row (cp15 .now) (LL.vals T.the-type T′.the-laws (cp15 .now))
-      → ent 𝓤 (⋆ 𝓤 H A ((‵ (flft κ₂ q₂) ⊛ ‵ (flft κ₃ q₃) ⊛ ‵ ftrue) ∷ ‵
-      (owns (ShrSlice (named 2) κ₂ u8 ∷ ShrSlice (named 3) κ₃ u8 ∷ u32 ∷ []) (x .1 .1) (at .1 .1)) ∷ [])) (Value 𝓤 H A at-mem run .pre to)
+      → ent 𝓤 (⋆ 𝓤 H A ((‵ (flft κ₂ q₂) ⊛ ‵ (flft κ₃ q₃) ⊛ ‵ (flft κ₄ q₄) ⊛ ‵ ftrue) ∷ ‵
+      (owns (ShrSlice (named 2) κ₂ u8 ∷ ShrSlice (named 3) κ₃ u8 ∷ ShrSlice (named 4) κ₄ u8 ∷ u32 ∷ []) (x .1 .1) (at .1 .1)) ∷ []))
+      (Value 𝓤 H A at-mem run .pre to)
   goes s-is c-is =
-      qed W ((‵ (flft κ₂ q₂) ⊛ ‵ (flft κ₃ q₃) ⊛ ‵ ftrue) ∷ ‵
-      (owns (ShrSlice (named 2) κ₂ u8 ∷ ShrSlice (named 3) κ₃ u8 ∷ u32 ∷ []) (x .1 .1) (at .1 .1)) ∷ []) ∵ move ! (1 ∷ []) $
+      qed W ((‵ (flft κ₂ q₂) ⊛ ‵ (flft κ₃ q₃) ⊛ ‵ (flft κ₄ q₄) ⊛ ‵ ftrue) ∷ ‵
+      (owns (ShrSlice (named 2) κ₂ u8 ∷ ShrSlice (named 3) κ₃ u8 ∷ ShrSlice (named 4) κ₄ u8 ∷ u32 ∷ []) (x .1 .1) (at .1 .1)) ∷ []) ∵ move ! (1 ∷ []) $
       owned ! T.the-row (Is T.the-row) (LL.makes T.the-type T′.the-plain 𝓤 H A) (cp15 .now) _ c-is $ fjoin ! $
       owned ! S.the-row (Is S.the-row) (LL.makes S.the-type S′.the-plain 𝓤 H A) (state .now) _ s-is $ fjoin ! $ move ! (1 ∷ 0 ∷ []) $ join ! $ frame ! $ done !
 
   abbrev left : ℕ → Val → List (Item 𝓤)
-  left r v = ‵ (flft κ₀ q₀) ∷ ‵ (flft κ₁ q₁) ∷ (‵ (flft κ₂ q₂) ⊛ ‵ (flft κ₃ q₃) ⊛ ‵ ftrue) ∷ ‵ (u64 .own r (v ∷ [])) ∷ []
+  left r v = ‵ (flft κ₀ q₀) ∷ ‵ (flft κ₁ q₁) ∷ (‵ (flft κ₂ q₂) ⊛ ‵ (flft κ₃ q₃) ⊛ ‵ (flft κ₄ q₄) ⊛ ‵ ftrue) ∷ ‵ (u64 .own r (v ∷ [])) ∷ []
 
   exits : (r : ℕ) (v : Val) → Says r → ent 𝓤 (⋆ 𝓤 H A (left r v)) (Post v)
   exits r v e =
       qed W (left r v) ∵
       suffices ! _ (ends-at 𝓤 H A f.ended stayed (f.clauses 𝓤 H A at-mem run) W
-      (((κ₀, (κ₁, (κ₂, (κ₃, tt)))), (q₀, (q₁, (q₂, (q₃, tt)))), bounds, x, at), tt) v r (tt, (tt, (tt, (tt, (tt, tt))))) (
+      (((κ₀, (κ₁, (κ₂, (κ₃, (κ₄, tt))))), (q₀, (q₁, (q₂, (q₃, (q₄, tt))))), bounds, x, at), tt) v r (tt, (tt, (tt, (tt, (tt, (tt, tt)))))) (
         tt,
-        (tt, (tt, (tt, (tt, tt)))),
+        (tt, (tt, (tt, (tt, (tt, tt))))),
       )) $ says ! e $
       move ! (1 ∷ 2 ∷ []) $ join ! $ move ! (1 ∷ 0 ∷ []) $ join ! $ frame ! $
-      nothing ! $ nothing ! $ fjoin ! $ nothing ! $ fjoin ! $ nothing ! $ fjoin ! $ nothing ! $ fjoin ! $ nothing ! $ fjoin ! $ frame ! $ done !
+      nothing ! $ nothing ! $ fjoin ! $ nothing ! $ fjoin ! $ nothing ! $ fjoin ! $ nothing ! $ fjoin ! $ nothing ! $ fjoin ! $ nothing ! $ fjoin ! $
+      frame ! $ done !
 
   module _ (C : Calls 𝓤 H) (Λ : Loops 𝓤 H) (fm : FmC 𝓤 H (W .laws) C) (known : Triple 𝓤 (C #inspect·look-code) (Value 𝓤 H A at-mem run)) where
-    walk : Is (ShrSlice (named 2) κ₂ u8) memory (memory-val ∷ []) → Is (ShrSlice (named 3) κ₃ u8) store (store-val ∷ []) → va < 2 ^ 32 →
-        ent 𝓤 (onEntry 𝓤 H A f.signature (κ₀, (κ₁, (κ₂, (κ₃, tt)))) (q₀, (q₁, (q₂, (q₃, tt)))) x at)
-        (WpFn 𝓤 H C Λ code.function (vptr (state .ptr .0) (state .ptr .1) ∷ vptr (cp15 .ptr .0) (cp15 .ptr .1) ∷ memory-val ∷ store-val ∷ vint w32 va
-        ∷ []) Post)
-    walk memory-is store-is va-is =
-        qed W ((‵ (flft κ₀ q₀) ⊛ ‵ (flft κ₁ q₁) ⊛ ‵ (flft κ₂ q₂) ⊛ ‵ (flft κ₃ q₃) ⊛ ‵ ftrue)
-        ∷ ‵ (owns (ShrRef (named 0) κ₀ S.the-row ∷ ShrRef (named 1) κ₁ T.the-row ∷ ShrSlice (named 2) κ₂ u8 ∷ ShrSlice (named 3) κ₃ u8 ∷ u32 ∷ []) x at) ∷ []) ∵
-        enter ! C Λ code.function (vptr (state .ptr .0) (state .ptr .1) ∷ vptr (cp15 .ptr .0) (cp15 .ptr .1) ∷ memory-val ∷ store-val ∷ vint w32 va ∷ []) _ $
-        alloc1 ! (λ l₀. alloc1 ! (λ l₁. alloc1 ! (λ l₂. alloc1 ! (λ l₃. alloc1 ! (λ l₄. alloc1 ! (λ l₅. alloc1 ! (λ l₆. alloc1 ! (λ l₇. alloc0 ! $ params1 ! $
-        pass1 ! (init ! 12 refl (tt, tt)) $ pass1 ! (init ! 10 refl (tt, tt)) $
-        pass1 ! (init ! 8 refl (shr-slice-lawful 𝓤 H A W (named 2) κ₂ u8 .typed memory (memory-val ∷ []) memory-is .0)) $
-        pass1 ! (init ! 6 refl (shr-slice-lawful 𝓤 H A W (named 3) κ₃ u8 .typed store (store-val ∷ []) store-is .0)) $
+    walk : Is (ShrSlice (named 2) κ₂ u8) memory (memory-val ∷ []) → Is (ShrSlice (named 3) κ₃ u8) bad (bad-val ∷ []) →
+        Is (ShrSlice (named 4) κ₄ u8) store (store-val ∷ []) → va < 2 ^ 32 →
+        ent 𝓤 (onEntry 𝓤 H A f.signature (κ₀, (κ₁, (κ₂, (κ₃, (κ₄, tt))))) (q₀, (q₁, (q₂, (q₃, (q₄, tt))))) x at)
+        (WpFn 𝓤 H C Λ code.function (vptr (state .ptr .0) (state .ptr .1) ∷ vptr (cp15 .ptr .0) (cp15 .ptr .1) ∷ memory-val ∷ bad-val ∷ store-val
+        ∷ vint w32 va ∷ []) Post)
+    walk memory-is bad-is store-is va-is =
+        qed W ((‵ (flft κ₀ q₀) ⊛ ‵ (flft κ₁ q₁) ⊛ ‵ (flft κ₂ q₂) ⊛ ‵ (flft κ₃ q₃) ⊛ ‵ (flft κ₄ q₄) ⊛ ‵ ftrue)
+        ∷ ‵ (owns (ShrRef (named 0) κ₀ S.the-row ∷ ShrRef (named 1) κ₁ T.the-row ∷ ShrSlice (named 2) κ₂ u8 ∷ ShrSlice (named 3) κ₃ u8
+        ∷ ShrSlice (named 4) κ₄ u8 ∷ u32 ∷ []) x at) ∷ []) ∵
+        enter ! C Λ code.function (vptr (state .ptr .0) (state .ptr .1) ∷ vptr (cp15 .ptr .0) (cp15 .ptr .1) ∷ memory-val ∷ bad-val ∷ store-val
+        ∷ vint w32 va ∷ []) _ $
+        alloc1 ! (λ l₀. alloc1 ! (λ l₁. alloc1 ! (λ l₂. alloc1 ! (λ l₃. alloc1 ! (λ l₄. alloc1 ! (λ l₅. alloc1 ! (λ l₆. alloc1 ! (λ l₇. alloc1 ! (λ l₈.
+        alloc0 ! $ params1 ! $
+        pass1 ! (init ! 14 refl (tt, tt)) $ pass1 ! (init ! 12 refl (tt, tt)) $
+        pass1 ! (init ! 10 refl (shr-slice-lawful 𝓤 H A W (named 2) κ₂ u8 .typed memory (memory-val ∷ []) memory-is .0)) $
+        pass1 ! (init ! 8 refl (shr-slice-lawful 𝓤 H A W (named 3) κ₃ u8 .typed bad (bad-val ∷ []) bad-is .0)) $
+        pass1 ! (init ! 6 refl (shr-slice-lawful 𝓤 H A W (named 4) κ₄ u8 .typed store (store-val ∷ []) store-is .0)) $
         pass1 ! (init ! 4 refl (tt, record { fits = va-is })) $ pass0 ! $
-        -- [room for _7; …; to room for _0; …; the tokens; what the parameters own]
-        move ! (16 ∷ 17 ∷ []) $ look-lent ! tt (named 0) S.the-type S′.the-laws S′.the-copy state (λ q′ s-is.
-        -- [a share of the state's cell; own; the open borrow; the other tokens; what the others own; room for _7; …; to room for _0; …]
-        assigns ! (of-opd ! (load ! (from ! (hop ! (look ! 17 refl) (stop !))) (look-raw ! 0 refl))) (from ! (stop !))
+        -- [room for _8; …; to room for _0; …; the tokens; what the parameters own]
+        move ! (18 ∷ 19 ∷ []) $ look-lent ! tt (named 0) S.the-type S′.the-laws S′.the-copy state (λ q′ s-is.
+        -- [a share of the state's cell; own; the open borrow; the other tokens; what the others own; room for _8; …; to room for _0; …]
+        assigns ! (of-opd ! (load ! (from ! (hop ! (look ! 19 refl) (stop !))) (look-raw ! 0 refl))) (from ! (stop !))
         (init ! 7 refl (LL.lawful S.the-type S′.the-laws 𝓤 H A W .typed (state .now) _ s-is .0)) $
         shuts ! tt S.the-row q′ (state .now) (LL.vals S.the-type S′.the-laws (state .now)) (state .ptr .0) (state .ptr .1) $
-        -- [the state's token; the other tokens; what the others own; room for _7; …; to room for _0; …]
+        -- [the state's token; the other tokens; what the others own; room for _8; …; to room for _0; …]
         move ! (1 ∷ 2 ∷ []) $ look-lent ! tt (named 1) T.the-type T′.the-laws T′.the-copy cp15 (λ q″ c-is.
-        -- [a share of the record's cell; own; the open borrow; the other tokens; what the others own; the state's token; room for _7; …; to room for _0; …]
-        assigns ! (of-opd ! (load ! (from ! (hop ! (look ! 16 refl) (stop !))) (look-raw ! 0 refl))) (from ! (stop !))
+        -- [a share of the record's cell; own; the open borrow; the other tokens; what the others own; the state's token; room for _8; …; to room for _0; …]
+        assigns ! (of-opd ! (load ! (from ! (hop ! (look ! 18 refl) (stop !))) (look-raw ! 0 refl))) (from ! (stop !))
         (init ! 6 refl (LL.lawful T.the-type T′.the-laws 𝓤 H A W .typed (cp15 .now) _ c-is .0)) $
         shuts ! tt T.the-row q″ (cp15 .now) (LL.vals T.the-type T′.the-laws (cp15 .now)) (cp15 .ptr .0) (cp15 .ptr .1) $
-        -- [the record's token; the other tokens; what the others own; the state's token; _7; …; to room for _0; …]
+        -- [the record's token; the other tokens; what the others own; the state's token; _8; …; to room for _0; …]
         move ! (1 ∷ 2 ∷ []) $ use2 W (raw (Value 𝓤 H A at-mem run .pre to)) (goes s-is c-is) $
         calls-at ! fm (Value 𝓤 H A at-mem run) known to
         (and-then ! (load ! (from ! (stop !)) (look ! 5 refl)) (and-then ! (load ! (from ! (stop !)) (look ! 3 refl))
-        (and-then ! (load ! (from ! (stop !)) (look ! 11 refl)) (and-then ! (load ! (from ! (stop !)) (look ! 9 refl))
-        (and-then ! (load ! (from ! (stop !)) (look ! 7 refl)) (no-more !)))))) (λ v.
-        use1 W (later (some (λ (r : ℕ). ((‵ (flft κ₂ q₂) ⊛ ‵ (flft κ₃ q₃) ⊛ ‵ ftrue) ⊛ ‵ (u64 .own r (v ∷ [])))
-        ⊛ raw (ensured 𝓤 H A g.ended (g.clauses 𝓤 H A at-mem run) (κ₂, (κ₃, tt)) args tt r)))) (id⊢ 𝓤 _) $ await ! tt $ pick ! (λ r.
+        (and-then ! (load ! (from ! (stop !)) (look ! 13 refl)) (and-then ! (load ! (from ! (stop !)) (look ! 11 refl))
+        (and-then ! (load ! (from ! (stop !)) (look ! 9 refl)) (and-then ! (load ! (from ! (stop !)) (look ! 7 refl)) (no-more !))))))) (λ v.
+        use1 W (later (some (λ (r : ℕ). ((‵ (flft κ₂ q₂) ⊛ ‵ (flft κ₃ q₃) ⊛ ‵ (flft κ₄ q₄) ⊛ ‵ ftrue) ⊛ ‵ (u64 .own r (v ∷ [])))
+        ⊛ raw (ensured 𝓤 H A g.ended (g.clauses 𝓤 H A at-mem run) (κ₂, (κ₃, (κ₄, tt))) args tt r)))) (id⊢ 𝓤 _) $ await ! tt $ pick ! (λ r.
         -- what the callee ensures, at some last values
         split ! $ move ! (1 ∷ []) $ use1 W (some
-        (λ (zs : Unit {0} × (Unit {0} × (Unit {0} × (Unit {0} × (Unit {0} × Unit {0}))))). ‵ (lasts g.ended (κ₂, (κ₃, tt)) args zs)
+        (λ (zs : Unit {0} × (Unit {0} × (Unit {0} × (Unit {0} × (Unit {0} × (Unit {0} × Unit {0})))))). ‵ (lasts g.ended (κ₂, (κ₃, (κ₄, tt))) args zs)
         ⊛ raw (fact 𝓤 (Says r)))) (id⊢ 𝓤 _) $ pick ! (λ zs.
         split ! $ move ! (1 ∷ []) $ heard ! (Says r) (λ e.
         drop ! $
         split ! $ move ! (1 ∷ []) $ peeks ! u64 (Is u64) (shows 𝓤 H A u64) r (v ∷ []) (λ is.
-        -- [the result's; the other tokens; the record's token; the state's token; _7; …; to room for _0; …]
-        land ! (from ! (stop !)) (init ! 18 refl (uint-lawful 𝓤 H A W w64 .typed r _ is .0)) $
-        returns ! (look ! 18 refl) $ forget ! 4 refl $ forget ! 6 refl $ forget ! 8 refl $ forget ! 10 refl $ forget ! 12 refl $ forget ! 14 refl $
-        forget ! 16 refl $ forget ! 18 refl $
-        move ! (18 ∷ 19 ∷ []) $ free1 ! $ move ! (16 ∷ 17 ∷ []) $ free1 ! $ move ! (14 ∷ 15 ∷ []) $ free1 ! $ move ! (12 ∷ 13 ∷ []) $ free1 ! $
-        move ! (10 ∷ 11 ∷ []) $ free1 ! $ move ! (8 ∷ 9 ∷ []) $ free1 ! $ move ! (6 ∷ 7 ∷ []) $ free1 ! $ move ! (4 ∷ 5 ∷ []) $ free1 ! $ free0 ! $
-        keep ! (3 ∷ 2 ∷ 1 ∷ 0 ∷ []) $ by ! (exits r v e))))))))))))))))
+        -- [the result's; the other tokens; the record's token; the state's token; _8; …; to room for _0; …]
+        land ! (from ! (stop !)) (init ! 20 refl (uint-lawful 𝓤 H A W w64 .typed r _ is .0)) $
+        returns ! (look ! 20 refl) $ forget ! 4 refl $ forget ! 6 refl $ forget ! 8 refl $ forget ! 10 refl $ forget ! 12 refl $ forget ! 14 refl $
+        forget ! 16 refl $ forget ! 18 refl $ forget ! 20 refl $
+        move ! (20 ∷ 21 ∷ []) $ free1 ! $ move ! (18 ∷ 19 ∷ []) $ free1 ! $ move ! (16 ∷ 17 ∷ []) $ free1 ! $ move ! (14 ∷ 15 ∷ []) $ free1 ! $
+        move ! (12 ∷ 13 ∷ []) $ free1 ! $ move ! (10 ∷ 11 ∷ []) $ free1 ! $ move ! (8 ∷ 9 ∷ []) $ free1 ! $ move ! (6 ∷ 7 ∷ []) $ free1 ! $
+        move ! (4 ∷ 5 ∷ []) $ free1 ! $ free0 ! $
+        keep ! (3 ∷ 2 ∷ 1 ∷ 0 ∷ []) $ by ! (exits r v e)))))))))))))))))
 
 module _ {M : Type 1} (𝓤 : URA M) (H : Heap 𝓤) (A : Atoms 𝓤) (W : Given 𝓤 H A) (at-mem : Memory → SProp 𝓤) (run : Routine → Fun 𝓤) where
   walks : (C : Calls 𝓤 H) (Λ : Loops 𝓤 H) → FmC 𝓤 H (W .laws) C → Triple 𝓤 (C #inspect·look-code) (Value 𝓤 H A at-mem run)
       → Walks 𝓤 H A f.ended stayed (WpFn 𝓤 H C Λ code.function) (f.clauses 𝓤 H A at-mem run)
   walks C Λ fm known = walked 𝓤 H A f.ended stayed (f.clauses 𝓤 H A at-mem run) (WpFn 𝓤 H C Λ code.function)
-      (λ κs. (ptr-vals, (ptr-vals, (slice-vals, (slice-vals, (uint-vals w32, tt))))))
+      (λ κs. (ptr-vals, (ptr-vals, (slice-vals, (slice-vals, (slice-vals, (uint-vals w32, tt)))))))
       (λ κs. (
         shr-tells (named 0) (κs .0) S.the-row,
         (
           shr-tells (named 1) (κs .1 .0) T.the-row,
-          (shr-slice-tells (named 2) (κs .1 .1 .0) u8, (shr-slice-tells (named 3) (κs .1 .1 .1 .0) u8, (uint-tells w32, tt))),
+          (
+            shr-slice-tells (named 2) (κs .1 .1 .0) u8,
+            (shr-slice-tells (named 3) (κs .1 .1 .1 .0) u8, (shr-slice-tells (named 4) (κs .1 .1 .1 .1 .0) u8, (uint-tells w32, tt))),
+          ),
         ),
       ))
-      (λ κs qs bounds a g are. via 𝓤 _ (fst∗ 𝓤 _ (emp 𝓤)) (walk 𝓤 H A W at-mem run (κs .0) (κs .1 .0) (κs .1 .1 .0) (κs .1 .1 .1 .0) (qs .0)
-      (qs .1 .0) (qs .1 .1 .0) (qs .1 .1 .1 .0) bounds
-      (a .0) (a .1 .0) (a .1 .1 .0) (a .1 .1 .1 .0) (a .1 .1 .1 .1 .0) C Λ fm known (are .1 .1 .0) (are .1 .1 .1 .0) (are .1 .1 .1 .1 .0 .1)))
+      (λ κs qs bounds a g are. via 𝓤 _ (fst∗ 𝓤 _ (emp 𝓤)) (walk 𝓤 H A W at-mem run (κs .0) (κs .1 .0) (κs .1 .1 .0) (κs .1 .1 .1 .0) (κs .1 .1 .1 .1 .0)
+      (qs .0) (qs .1 .0) (qs .1 .1 .0) (qs .1 .1 .1 .0) (qs .1 .1 .1 .1 .0) bounds (a .0) (a .1 .0) (a .1 .1 .0) (a .1 .1 .1 .0) (a .1 .1 .1 .1 .0)
+      (a .1 .1 .1 .1 .1 .0) C Λ fm known (are .1 .1 .0) (are .1 .1 .1 .0) (are .1 .1 .1 .1 .0) (are .1 .1 .1 .1 .1 .0 .1)))
 
-  goes-all : AllGo 𝓤 H A W 4 (f.signature .params) (f.ended .kept) stayed
+  goes-all : AllGo 𝓤 H A W 5 (f.signature .params) (f.ended .kept) stayed
   goes-all = (
-    goes-dropped 𝓤 H A W 4 state-slot yes (λ κs x f. refl),
+    goes-dropped 𝓤 H A W 5 state-slot yes (λ κs x f. refl),
     (
-      goes-dropped 𝓤 H A W 4 cp15-slot yes (λ κs x f. refl),
+      goes-dropped 𝓤 H A W 5 cp15-slot yes (λ κs x f. refl),
       (
-        goes-dropped 𝓤 H A W 4 memory-slot yes (λ κs x f. refl),
+        goes-dropped 𝓤 H A W 5 memory-slot yes (λ κs x f. refl),
         (
-          goes-dropped 𝓤 H A W 4 store-slot yes (λ κs x f. refl),
-          (goes-dropped 𝓤 H A W 4 number yes (λ κs x f. refl), tt),
+          goes-dropped 𝓤 H A W 5 bad-slot yes (λ κs x f. refl),
+          (
+            goes-dropped 𝓤 H A W 5 store-slot yes (λ κs x f. refl),
+            (goes-dropped 𝓤 H A W 5 number yes (λ κs x f. refl), tt),
+          ),
         ),
       ),
     ),

@@ -137,7 +137,7 @@ module _ {M : Type 1} (𝓤 : URA M) (H : Heap 𝓤) (A : Atoms 𝓤) (W : Given
 
   -- what the contract says of the result
   abbrev Says : ℕ → Type 0
-  Says y = (memory store : List ℕ) → length memory ≡ n → y ≡ number (soundness.sound (machineIn memory store (state .now) (cp15 .now)))
+  Says y = (memory bad store : List ℕ) → length memory ≡ n → y ≡ number (soundness.sound (machineIn memory bad store (state .now) (cp15 .now)))
 
   -- what the callee is passed, and what it asks
   abbrev args : State × (Cp15 × (ℕ × Unit {0}))

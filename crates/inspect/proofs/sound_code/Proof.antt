@@ -11,7 +11,7 @@ bit-number-requires : tie.Need-bit-number-requires
 bit-number-requires c κs = search needs
 
 returns : tie.Need-returns
-returns c = λ memory store e. c .bit-number .ensures .0 ∙ ap number (c .before .is-sound .ensures memory store e)
+returns c = λ memory bad store e. c .bit-number .ensures .0 ∙ ap number (c .before .is-sound .ensures memory bad store e)
 
 pub sound-code-spec : {M : Type 1} → statement M
 sound-code-spec = tie.close (tie.spec is-sound-requires bit-number-requires returns)

@@ -23,7 +23,7 @@ cast-join c = search needs
 join-requires : tie.Need-join-requires
 join-requires c κs = let after-found = c .before .before .before in
     let after-newest = after-found .before .before in
-    let start = after-newest .before .before .before .before .before .before .before in
+    let start = after-newest .before .before .before .before .before .before .before .before in
     let a = start .args in
     let f = start .pre .0 in
     let e = sym (after-newest .newest .ensures (now (a .bytes)) (f .bytes-long)) ∙ after-found .found .given .1 in (
@@ -60,12 +60,12 @@ push-requires : tie.Need-push-requires
 push-requires c κs = let after-enum-told = c .before .before .before .before in
     let after-newest = after-enum-told .before .before in
     let after-mask-of = after-newest .before .before in
-    let start = after-mask-of .before .before .before .before .before in
+    let start = after-mask-of .before .before .before .before .before .before in
     let a = start .args in
     let f = start .pre .0 in
     let e = sym (after-newest .newest .ensures (now (a .bytes)) (f .bytes-long)) ∙ after-enum-told .enum-told .given .1 in (
       f,
-      new-inside (now (a .memory)) (now (a .words)) (now (a .bytes)) (a .used) f (a .pa) (a .width) (a .value) (start .pre .1) e
+      new-inside (now (a .memory)) (now (a .bad)) (now (a .words)) (now (a .bytes)) (a .used) f (a .pa) (a .width) (a .value) (start .pre .1) e
           (after-mask-of .mask-of .result) (after-mask-of .mask-of .ensures .0) (after-mask-of .mask-of .ensures .1),
     )
 
@@ -77,12 +77,12 @@ returns c = let after-join = c .before .before in
     let after-found = after-join .before .before .before .before in
     let after-newest = after-found .before .before in
     let after-mask-of = after-newest .before .before in
-    let start = after-mask-of .before .before .before .before .before in
+    let start = after-mask-of .before .before .before .before .before .before in
     let a = start .args in
     let f = start .pre .0 in
     let e = sym (after-newest .newest .ensures (now (a .bytes)) (f .bytes-long)) ∙ after-found .found .given .1 in
     rw (after-join .join .ensures .0, after-join .join .ensures .1)
-    (joined-left (now (a .memory)) (now (a .words)) (now (a .bytes)) (a .used) f (a .pa) (a .width) (a .value) (start .pre .1)
+    (joined-left (now (a .memory)) (now (a .bad)) (now (a .words)) (now (a .bytes)) (a .used) f (a .pa) (a .width) (a .value) (start .pre .1)
     (after-found .found .given .0 .0) e (after-mask-of .mask-of .result) (after-mask-of .mask-of .ensures .0) (after-mask-of .mask-of .ensures .1))
 
 same-length-2 : tie.Need-same-length-2
@@ -97,11 +97,11 @@ returns-2 c = let after-push = c .before .before .before .before in
     let after-enum-told = after-with-store .before in
     let after-newest = after-enum-told .before .before in
     let after-mask-of = after-newest .before .before in
-    let start = after-mask-of .before .before .before .before .before in
+    let start = after-mask-of .before .before .before .before .before .before in
     let a = start .args in
     let f = start .pre .0 in
     let e = sym (after-newest .newest .ensures (now (a .bytes)) (f .bytes-long)) ∙ after-enum-told .enum-told .given .1 in
-    new-left (now (a .memory)) (now (a .words)) (now (a .bytes)) (a .used) f (a .pa) (a .width) (a .value) (start .pre .1) e
+    new-left (now (a .memory)) (now (a .bad)) (now (a .words)) (now (a .bytes)) (a .used) f (a .pa) (a .width) (a .value) (start .pre .1) e
     (after-mask-of .mask-of .result) (after-mask-of .mask-of .ensures .0) (after-mask-of .mask-of .ensures .1) _ _ _ _
     (after-with-store .with-store .result) (after-with-store .with-store .ensures) (after-push .push .ensures)
 

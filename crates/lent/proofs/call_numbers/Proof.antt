@@ -26,8 +26,8 @@ same-length-2 c = search needs
 
 returns : tie.Need-returns
 returns c = let after-run = c .before .before .before .before .before .before .before in
-    let start = after-run .before .before .before .before .before .before .before in
-    let a = start .args in ap codedLeft (after-run .run .ensures) ∙ one-call (machineIn (now (a .memory)) (now (a .store)) (a .state) (a .cp15))
+    let start = after-run .before .before .before .before .before .before .before .before in
+    let a = start .args in ap codedLeft (after-run .run .ensures) ∙ one-call (machineIn (now (a .memory)) (now (a .bad)) (now (a .store)) (a .state) (a .cp15))
     (a .kind) (a .privileged) (a .n) (a .a) (a .v)
 
 pub call-numbers-spec : {M : Type 1} → statement M

@@ -1,6 +1,7 @@
 -- `lent::sa110_call` meets its contract: a walk of its MIR, by hand. The two borrows are opened, and the state and the record copied to
 -- locals; the slices are given up to `call_numbers`, each at its own lifetime, share and name; the state and the record that it returns are
--- stored through the borrows, which are closed at them. All that is known of `call_numbers` is that it meets its contract.
+-- stored through the borrows, which are closed at them. Of the map, which is shared, and of the numbers nothing is had at the exit. All that
+-- is known of `call_numbers` is that it meets its contract.
 -- Assumes nothing.
 use mathlib.Core.Path.{_≡_, refl, ap}
 use Prim.Native.Nat.{ℕ, _<_, _^_}
@@ -86,8 +87,8 @@ use denote.Memory.{mem}
 use denote.Plain.{uint-vals, uint-tells, uint-makes}
 use denote.Builtin.{u8, u32, u64}
 use denote.Ref.{RefT, MutRef, ptr-vals, mut-tells}
-use denote.Slice.{sliceVal, MutSlice, finally, slice-vals, mut-slice-tells, mut-slice-lawful}
-use denote.Signature.{Slot, plain}
+use denote.Slice.{sliceVal, MutSlice, ShrSlice, finally, slice-vals, mut-slice-tells, mut-slice-lawful, shr-slice-tells, shr-slice-lawful}
+use denote.Signature.{Slot, plain, shrSliceOf}
 use denote.Steps.{only, owned, peeks, heard, nothing}
 use denote.Struct.Laws as LL
 use denote.Triple.Statement.{Contract, Triple}
@@ -134,7 +135,10 @@ use Rattle.lent.proofs.sa110_call.Statement as stated
 use Rattle.lent.proofs.sa110_call.Code as code
 use Rattle.lent.proofs.Borrows.{open-lent, close-lent, back-lent}
 
-abbrev number : Slot 4
+abbrev bad-slot : Slot 5
+bad-slot = shrSliceOf (3 ∷ []) tt (plain (λ _. u8))
+
+abbrev number : Slot 5
 number = plain (λ _. u32)
 
 -- at the exit: the state and the record at their last values, and of the other parameters nothing but the last lists
@@ -146,8 +150,11 @@ stayed = (
     (
       gave-slice (2 ∷ []) tt (plain (λ _. u8)),
       (
-        gave-slice (3 ∷ []) tt (plain (λ _. u8)),
-        (stay-dropped number yes, (stay-dropped number yes, (stay-dropped number yes, (stay-dropped number yes, (stay-dropped number yes, tt))))),
+        stay-dropped bad-slot yes,
+        (
+          gave-slice (4 ∷ []) tt (plain (λ _. u8)),
+          (stay-dropped number yes, (stay-dropped number yes, (stay-dropped number yes, (stay-dropped number yes, (stay-dropped number yes, tt))))),
+        ),
       ),
     ),
   ),
@@ -159,47 +166,54 @@ module _ {M : Type 1} (𝓤 : URA M) (H : Heap 𝓤) (A : Atoms 𝓤) (at-mem : 
   Value = tripleOf 𝓤 H A g.signature (g.spec 𝓤 H A at-mem run)
 
 module _ {M : Type 1} (𝓤 : URA M) (H : Heap 𝓤) (A : Atoms 𝓤) (W : Given 𝓤 H A) (at-mem : Memory → SProp 𝓤) (run : Routine → Fun 𝓤)
-    (κ₀ κ₁ κ₂ κ₃ : Lft) (q₀ q₁ q₂ q₃ : Share) (bounds : AllOutlive 4 (f.signature .outlives) (κ₀, (κ₁, (κ₂, (κ₃, tt)))))
-    (state : RefT State) (cp15 : RefT Cp15) (memory store : RefT (List ℕ)) (kind privileged n a v : ℕ) where
-  abbrev x : RefT State × (RefT Cp15 × (RefT (List ℕ) × (RefT (List ℕ) × (ℕ × (ℕ × (ℕ × (ℕ × (ℕ × Unit {0}))))))))
-  x = (state, (cp15, (memory, (store, (kind, (privileged, (n, (a, (v, tt)))))))))
+    (κ₀ κ₁ κ₂ κ₃ κ₄ : Lft) (q₀ q₁ q₂ q₃ q₄ : Share) (bounds : AllOutlive 5 (f.signature .outlives) (κ₀, (κ₁, (κ₂, (κ₃, (κ₄, tt))))))
+    (state : RefT State) (cp15 : RefT Cp15) (memory bad store : RefT (List ℕ)) (kind privileged n a v : ℕ) where
+  abbrev x : RefT State × (RefT Cp15 × (RefT (List ℕ) × (RefT (List ℕ) × (RefT (List ℕ) × (ℕ × (ℕ × (ℕ × (ℕ × (ℕ × Unit {0})))))))))
+  x = (state, (cp15, (memory, (bad, (store, (kind, (privileged, (n, (a, (v, tt))))))))))
 
   -- the machine values of the slices
   abbrev memory-val : Val
   memory-val = sliceVal (memory .ptr) (length (memory .now))
 
+  abbrev bad-val : Val
+  bad-val = sliceVal (bad .ptr) (length (bad .now))
+
   abbrev store-val : Val
   store-val = sliceVal (store .ptr) (length (store .now))
 
-  abbrev at : List Val × (List Val × (List Val × (List Val × (List Val × (List Val × (List Val × (List Val × (List Val × Unit {0}))))))))
+  abbrev at : List Val × (List Val × (List Val × (List Val × (List Val × (List Val × (List Val × (List Val × (List Val × (List Val × Unit {0})))))))))
   at = (
     ptr-vals state,
     (
       ptr-vals cp15,
       (
         memory-val ∷ [],
-        (store-val ∷ [], (vint w32 kind ∷ [], (vint w32 privileged ∷ [], (vint w32 n ∷ [], (vint w32 a ∷ [], (vint w32 v ∷ [], tt)))))),
+        (
+          bad-val ∷ [],
+          (store-val ∷ [], (vint w32 kind ∷ [], (vint w32 privileged ∷ [], (vint w32 n ∷ [], (vint w32 a ∷ [], (vint w32 v ∷ [], tt)))))),
+        ),
       ),
     ),
   )
 
   abbrev Post : Val → SProp 𝓤
-  Post = walkOf 𝓤 H A f.ended stayed (f.clauses 𝓤 H A at-mem run) .post (((κ₀, (κ₁, (κ₂, (κ₃, tt)))), (q₀, (q₁, (q₂, (q₃, tt)))), bounds, x, at), tt)
+  Post = walkOf 𝓤 H A f.ended stayed (f.clauses 𝓤 H A at-mem run) .post
+      (((κ₀, (κ₁, (κ₂, (κ₃, (κ₄, tt))))), (q₀, (q₁, (q₂, (q₃, (q₄, tt))))), bounds, x, at), tt)
 
   -- what the contract says of the last lists, the last state and record, and the result
   abbrev Says : List ℕ → List ℕ → State → Cp15 → ℕ → Type 0
-  Says memory′ store′ s c y = answeredOf memory′ store′ (record { state = s; cp15 = c; code = y })
-      ≡ calledBy (machineIn (memory .now) (store .now) (state .now) (cp15 .now)) kind privileged n a v
+  Says memory′ store′ s c y = answeredOf memory′ (bad .now) store′ (record { state = s; cp15 = c; code = y })
+      ≡ calledBy (machineIn (memory .now) (bad .now) (store .now) (state .now) (cp15 .now)) kind privileged n a v
 
   -- what the callee is passed, and what it asks
-  abbrev args : State × (Cp15 × (RefT (List ℕ) × (RefT (List ℕ) × (ℕ × (ℕ × (ℕ × (ℕ × (ℕ × Unit {0}))))))))
-  args = (state .now, (cp15 .now, (memory, (store, (kind, (privileged, (n, (a, (v, tt)))))))))
+  abbrev args : State × (Cp15 × (RefT (List ℕ) × (RefT (List ℕ) × (RefT (List ℕ) × (ℕ × (ℕ × (ℕ × (ℕ × (ℕ × Unit {0})))))))))
+  args = (state .now, (cp15 .now, (memory, (bad, (store, (kind, (privileged, (n, (a, (v, tt))))))))))
 
   abbrev to : Value 𝓤 H A at-mem run .Ghost
   to = (
     (
-      (κ₂, (κ₃, tt)),
-      (q₂, (q₃, tt)),
+      (κ₂, (κ₃, (κ₄, tt))),
+      (q₂, (q₃, (q₄, tt))),
       tt,
       args,
       (
@@ -208,7 +222,10 @@ module _ {M : Type 1} (𝓤 : URA M) (H : Heap 𝓤) (A : Atoms 𝓤) (W : Given
           LL.vals T.the-type T′.the-laws (cp15 .now),
           (
             memory-val ∷ [],
-            (store-val ∷ [], (vint w32 kind ∷ [], (vint w32 privileged ∷ [], (vint w32 n ∷ [], (vint w32 a ∷ [], (vint w32 v ∷ [], tt)))))),
+            (
+              bad-val ∷ [],
+              (store-val ∷ [], (vint w32 kind ∷ [], (vint w32 privileged ∷ [], (vint w32 n ∷ [], (vint w32 a ∷ [], (vint w32 v ∷ [], tt)))))),
+            ),
           ),
         ),
       ),
@@ -217,12 +234,14 @@ module _ {M : Type 1} (𝓤 : URA M) (H : Heap 𝓤) (A : Atoms 𝓤) (W : Given
   )
 
   goes : Is S.the-row (state .now) (LL.vals S.the-type S′.the-laws (state .now)) → Is T.the-row (cp15 .now) (LL.vals T.the-type T′.the-laws (cp15 .now))
-      → ent 𝓤 (⋆ 𝓤 H A ((‵ (flft κ₂ q₂) ⊛ ‵ (flft κ₃ q₃) ⊛ ‵ ftrue) ∷ ‵
-      (owns (MutSlice (named 2) κ₂ u8 ∷ MutSlice (named 3) κ₃ u8 ∷ u32 ∷ u32 ∷ u32 ∷ u32 ∷ u32 ∷ []) (x .1 .1) (at .1 .1)) ∷ []))
+      → ent 𝓤 (⋆ 𝓤 H A ((‵ (flft κ₂ q₂) ⊛ ‵ (flft κ₃ q₃) ⊛ ‵ (flft κ₄ q₄) ⊛ ‵ ftrue) ∷ ‵
+      (owns (MutSlice (named 2) κ₂ u8 ∷ ShrSlice (named 3) κ₃ u8 ∷ MutSlice (named 4) κ₄ u8 ∷ u32 ∷ u32 ∷ u32 ∷ u32 ∷ u32 ∷ []) (x .1 .1)
+      (at .1 .1)) ∷ []))
       (Value 𝓤 H A at-mem run .pre to)
   goes s-is c-is =
-      qed W ((‵ (flft κ₂ q₂) ⊛ ‵ (flft κ₃ q₃) ⊛ ‵ ftrue) ∷ ‵
-      (owns (MutSlice (named 2) κ₂ u8 ∷ MutSlice (named 3) κ₃ u8 ∷ u32 ∷ u32 ∷ u32 ∷ u32 ∷ u32 ∷ []) (x .1 .1) (at .1 .1)) ∷ []) ∵ move ! (1 ∷ []) $
+      qed W ((‵ (flft κ₂ q₂) ⊛ ‵ (flft κ₃ q₃) ⊛ ‵ (flft κ₄ q₄) ⊛ ‵ ftrue) ∷ ‵
+      (owns (MutSlice (named 2) κ₂ u8 ∷ ShrSlice (named 3) κ₃ u8 ∷ MutSlice (named 4) κ₄ u8 ∷ u32 ∷ u32 ∷ u32 ∷ u32 ∷ u32 ∷ []) (x .1 .1)
+      (at .1 .1)) ∷ []) ∵ move ! (1 ∷ []) $
       owned ! T.the-row (Is T.the-row) (LL.makes T.the-type T′.the-plain 𝓤 H A) (cp15 .now) _ c-is $ fjoin ! $
       owned ! S.the-row (Is S.the-row) (LL.makes S.the-type S′.the-plain 𝓤 H A) (state .now) _ s-is $ fjoin ! $ move ! (1 ∷ 0 ∷ []) $ join ! $ frame ! $ done !
 
@@ -230,7 +249,8 @@ module _ {M : Type 1} (𝓤 : URA M) (H : Heap 𝓤) (A : Atoms 𝓤) (W : Given
   left r memory′ store′ = ‵ (fobs (state .name) (S.the-row .coded .code (r .state)))
       ∷ ‵ (fbor κ₀ (Body (mem S.the-row) (state .ptr .0) (state .ptr .1) (state .name))) ∷ ‵ (flft κ₀ q₀)
       ∷ ‵ (fobs (cp15 .name) (T.the-row .coded .code (r .cp15))) ∷ ‵ (fbor κ₁ (Body (mem T.the-row) (cp15 .ptr .0) (cp15 .ptr .1) (cp15 .name)))
-      ∷ ‵ (flft κ₁ q₁) ∷ (‵ (flft κ₂ q₂) ⊛ ‵ (flft κ₃ q₃) ⊛ ‵ ftrue) ∷ ‵ (finally u8 (memory .name) memory′) ∷ ‵ (finally u8 (store .name) store′) ∷ []
+      ∷ ‵ (flft κ₁ q₁) ∷ (‵ (flft κ₂ q₂) ⊛ ‵ (flft κ₃ q₃) ⊛ ‵ (flft κ₄ q₄) ⊛ ‵ ftrue) ∷ ‵ (finally u8 (memory .name) memory′)
+      ∷ ‵ (finally u8 (store .name) store′) ∷ []
 
   exits : (r : Answered) (memory′ store′ : List ℕ) → r .code < 2 ^ 64 → Says memory′ store′ (r .state) (r .cp15) (r .code) →
       length memory′ ≡ length (memory .now) → length store′ ≡ length (store .now)
@@ -238,50 +258,52 @@ module _ {M : Type 1} (𝓤 : URA M) (H : Heap 𝓤) (A : Atoms 𝓤) (W : Given
   exits r memory′ store′ fits e memory-len store-len =
       qed W (left r memory′ store′) ∵
       suffices ! _ (ends-at 𝓤 H A f.ended stayed (f.clauses 𝓤 H A at-mem run) W
-      (((κ₀, (κ₁, (κ₂, (κ₃, tt)))), (q₀, (q₁, (q₂, (q₃, tt)))), bounds, x, at), tt) (vint w64 (r .code)) (r .code) (
+      (((κ₀, (κ₁, (κ₂, (κ₃, (κ₄, tt))))), (q₀, (q₁, (q₂, (q₃, (q₄, tt))))), bounds, x, at), tt) (vint w64 (r .code)) (r .code) (
         r .state,
-        (r .cp15, (memory′, (store′, (tt, (tt, (tt, (tt, (tt, tt)))))))),
-      ) (tt, (tt, (memory-len, (store-len, (tt, (tt, (tt, (tt, (tt, tt)))))))))) $ says ! e $
+        (r .cp15, (memory′, (tt, (store′, (tt, (tt, (tt, (tt, (tt, tt))))))))),
+      ) (tt, (tt, (memory-len, (tt, (store-len, (tt, (tt, (tt, (tt, (tt, tt))))))))))) $ says ! e $
       move ! (5 ∷ 6 ∷ []) $ join ! $ move ! (3 ∷ 0 ∷ []) $ join ! $ frame ! $
       nothing ! $ nothing ! $ fjoin ! $ nothing ! $ fjoin ! $ nothing ! $ fjoin ! $ nothing ! $ fjoin ! $ nothing ! $ fjoin ! $ move ! (6 ∷ 0 ∷ []) $
-      fjoin ! $ move ! (5 ∷ 0 ∷ []) $ fjoin ! $
+      fjoin ! $ nothing ! $ fjoin ! $ move ! (5 ∷ 0 ∷ []) $ fjoin ! $
       move ! (3 ∷ 4 ∷ 0 ∷ []) $ back-lent ! (named 1) T.the-type cp15 (r .cp15) $ move ! (1 ∷ 2 ∷ 0 ∷ []) $
       back-lent ! (named 0) S.the-type state (r .state) $ frame ! $ owned ! u64 (Is u64) (uint-makes 𝓤 H A W w64) (r .code) _ (refl, fits) $ done !
 
   module _ (C : Calls 𝓤 H) (Λ : Loops 𝓤 H) (fm : FmC 𝓤 H (W .laws) C) (known : Triple 𝓤 (C #lent·call-numbers) (Value 𝓤 H A at-mem run)) where
-    walk : Is (MutSlice (named 2) κ₂ u8) memory (memory-val ∷ []) → Is (MutSlice (named 3) κ₃ u8) store (store-val ∷ []) → kind < 2 ^ 32 →
-        privileged < 2 ^ 32 → n < 2 ^ 32 → a < 2 ^ 32 → v < 2 ^ 32 →
-        ent 𝓤 (onEntry 𝓤 H A f.signature (κ₀, (κ₁, (κ₂, (κ₃, tt)))) (q₀, (q₁, (q₂, (q₃, tt)))) x at)
-        (WpFn 𝓤 H C Λ code.function (vptr (state .ptr .0) (state .ptr .1) ∷ vptr (cp15 .ptr .0) (cp15 .ptr .1) ∷ memory-val ∷ store-val
+    walk : Is (MutSlice (named 2) κ₂ u8) memory (memory-val ∷ []) → Is (ShrSlice (named 3) κ₃ u8) bad (bad-val ∷ []) →
+        Is (MutSlice (named 4) κ₄ u8) store (store-val ∷ []) → kind < 2 ^ 32 → privileged < 2 ^ 32 → n < 2 ^ 32 → a < 2 ^ 32 → v < 2 ^ 32 →
+        ent 𝓤 (onEntry 𝓤 H A f.signature (κ₀, (κ₁, (κ₂, (κ₃, (κ₄, tt))))) (q₀, (q₁, (q₂, (q₃, (q₄, tt))))) x at)
+        (WpFn 𝓤 H C Λ code.function (vptr (state .ptr .0) (state .ptr .1) ∷ vptr (cp15 .ptr .0) (cp15 .ptr .1) ∷ memory-val ∷ bad-val ∷ store-val
         ∷ vint w32 kind ∷ vint w32 privileged ∷ vint w32 n ∷ vint w32 a ∷ vint w32 v ∷ []) Post)
-    walk memory-is store-is kind-is privileged-is n-is a-is v-is =
-        qed W ((‵ (flft κ₀ q₀) ⊛ ‵ (flft κ₁ q₁) ⊛ ‵ (flft κ₂ q₂) ⊛ ‵ (flft κ₃ q₃) ⊛ ‵ ftrue)
-        ∷ ‵ (owns (MutRef (named 0) κ₀ S.the-row ∷ MutRef (named 1) κ₁ T.the-row ∷ MutSlice (named 2) κ₂ u8 ∷ MutSlice (named 3) κ₃ u8 ∷ u32 ∷ u32
-        ∷ u32 ∷ u32 ∷ u32 ∷ []) x at) ∷ []) ∵
-        enter ! C Λ code.function (vptr (state .ptr .0) (state .ptr .1) ∷ vptr (cp15 .ptr .0) (cp15 .ptr .1) ∷ memory-val ∷ store-val ∷ vint w32 kind
-        ∷ vint w32 privileged ∷ vint w32 n ∷ vint w32 a ∷ vint w32 v ∷ []) _ $
+    walk memory-is bad-is store-is kind-is privileged-is n-is a-is v-is =
+        qed W ((‵ (flft κ₀ q₀) ⊛ ‵ (flft κ₁ q₁) ⊛ ‵ (flft κ₂ q₂) ⊛ ‵ (flft κ₃ q₃) ⊛ ‵ (flft κ₄ q₄) ⊛ ‵ ftrue)
+        ∷ ‵ (owns (MutRef (named 0) κ₀ S.the-row ∷ MutRef (named 1) κ₁ T.the-row ∷ MutSlice (named 2) κ₂ u8 ∷ ShrSlice (named 3) κ₃ u8
+        ∷ MutSlice (named 4) κ₄ u8 ∷ u32 ∷ u32 ∷ u32 ∷ u32 ∷ u32 ∷ []) x at) ∷ []) ∵
+        enter ! C Λ code.function (vptr (state .ptr .0) (state .ptr .1) ∷ vptr (cp15 .ptr .0) (cp15 .ptr .1) ∷ memory-val ∷ bad-val ∷ store-val
+        ∷ vint w32 kind ∷ vint w32 privileged ∷ vint w32 n ∷ vint w32 a ∷ vint w32 v ∷ []) _ $
         alloc1 ! (λ l₀. alloc1 ! (λ l₁. alloc1 ! (λ l₂. alloc1 !
         (λ l₃. alloc1 ! (λ l₄. alloc1 ! (λ l₅. alloc1 !
         (λ l₆. alloc1 ! (λ l₇. alloc1 ! (λ l₈. alloc1 !
-        (λ l₉. alloc1 ! (λ l₁₀. alloc1 ! (λ l₁₁. alloc1 ! (λ l₁₂. alloc1 ! (λ l₁₃. alloc1 ! (λ l₁₄. alloc1 ! (λ l₁₅. alloc1 ! (λ l₁₆. alloc0 ! $ params1 ! $
-        pass1 ! (init ! 30 refl (tt, tt)) $ pass1 ! (init ! 28 refl (tt, tt)) $
-        pass1 ! (init ! 26 refl (mut-slice-lawful 𝓤 H A W (named 2) κ₂ u8 .typed memory (memory-val ∷ []) memory-is .0)) $
-        pass1 ! (init ! 24 refl (mut-slice-lawful 𝓤 H A W (named 3) κ₃ u8 .typed store (store-val ∷ []) store-is .0)) $
+        (λ l₉. alloc1 ! (λ l₁₀. alloc1 ! (λ l₁₁. alloc1 ! (λ l₁₂. alloc1 ! (λ l₁₃. alloc1 ! (λ l₁₄. alloc1 ! (λ l₁₅. alloc1 ! (λ l₁₆. alloc1 ! (λ l₁₇.
+        alloc0 ! $ params1 ! $
+        pass1 ! (init ! 32 refl (tt, tt)) $ pass1 ! (init ! 30 refl (tt, tt)) $
+        pass1 ! (init ! 28 refl (mut-slice-lawful 𝓤 H A W (named 2) κ₂ u8 .typed memory (memory-val ∷ []) memory-is .0)) $
+        pass1 ! (init ! 26 refl (shr-slice-lawful 𝓤 H A W (named 3) κ₃ u8 .typed bad (bad-val ∷ []) bad-is .0)) $
+        pass1 ! (init ! 24 refl (mut-slice-lawful 𝓤 H A W (named 4) κ₄ u8 .typed store (store-val ∷ []) store-is .0)) $
         pass1 ! (init ! 22 refl (tt, record { fits = kind-is })) $ pass1 ! (init ! 20 refl (tt, record { fits = privileged-is })) $
         pass1 ! (init ! 18 refl (tt, record { fits = n-is })) $ pass1 ! (init ! 16 refl (tt, record { fits = a-is })) $
         pass1 ! (init ! 14 refl (tt, record { fits = v-is })) $ pass0 ! $
-        -- [room for _16; …; to room for _0; …; the tokens; what the parameters own]
-        move ! (34 ∷ 35 ∷ []) $ open-lent ! tt (named 0) S.the-type S′.the-laws state (λ s-is.
+        -- [room for _17; …; to room for _0; …; the tokens; what the parameters own]
+        move ! (36 ∷ 37 ∷ []) $ open-lent ! tt (named 0) S.the-type S′.the-laws state (λ s-is.
         move ! (5 ∷ 6 ∷ []) $ open-lent ! tt (named 1) T.the-type T′.the-laws cp15 (λ c-is.
         -- [the record: cell, own, open borrow, obs, auth; the other tokens; what the others own; the state: cell, own, open borrow, obs, auth; room
-        -- for _16; …; to room for _0; …]
-        assigns ! (of-opd ! (load ! (from ! (hop ! (look ! 42 refl) (stop !))) (look-raw ! 7 refl))) (from ! (stop !))
+        -- for _17; …; to room for _0; …]
+        assigns ! (of-opd ! (load ! (from ! (hop ! (look ! 44 refl) (stop !))) (look-raw ! 7 refl))) (from ! (stop !))
         (init ! 22 refl (LL.lawful S.the-type S′.the-laws 𝓤 H A W .typed (state .now) _ s-is .0)) $
-        assigns ! (of-opd ! (load ! (from ! (hop ! (look ! 40 refl) (stop !))) (look-raw ! 0 refl))) (from ! (stop !))
+        assigns ! (of-opd ! (load ! (from ! (hop ! (look ! 42 refl) (stop !))) (look-raw ! 0 refl))) (from ! (stop !))
         (init ! 20 refl (LL.lawful T.the-type T′.the-laws 𝓤 H A W .typed (cp15 .now) _ c-is .0)) $
-        assigns ! (addr ! (from ! (fld ! refl (hop ! (look-in ! 38 (sub ! 0 refl (whole !))) (stop !))))) (from ! (stop !)) (init ! 18 refl (tt, tt)) $
+        assigns ! (addr ! (from ! (fld ! refl (hop ! (look-in ! 40 (sub ! 0 refl (whole !))) (stop !))))) (from ! (stop !)) (init ! 18 refl (tt, tt)) $
         assigns ! (agg ! (and-then ! (load ! (from ! (stop !)) (look ! 18 refl))
-        (and-then ! (load ! (from ! (fld ! refl (stop !))) (look-in ! 38 (sub ! 1 refl (whole !)))) (no-more !)))) (from ! (stop !))
+        (and-then ! (load ! (from ! (fld ! refl (stop !))) (look-in ! 40 (sub ! 1 refl (whole !)))) (no-more !)))) (from ! (stop !))
         (init ! 16 refl (tt, (tt, (record { fits = memory-is .0 .1 .0 }, tt)))) $
         assigns ! (addr ! (from ! (fld ! refl (hop ! (look-in ! 36 (sub ! 0 refl (whole !))) (stop !))))) (from ! (stop !)) (init ! 14 refl (tt, tt)) $
         assigns ! (agg ! (and-then ! (load ! (from ! (stop !)) (look ! 14 refl))
@@ -290,50 +312,60 @@ module _ {M : Type 1} (𝓤 : URA M) (H : Heap 𝓤) (A : Atoms 𝓤) (W : Given
         move ! (5 ∷ 6 ∷ []) $ use2 W (raw (Value 𝓤 H A at-mem run .pre to)) (goes s-is c-is) $
         calls-at ! fm (Value 𝓤 H A at-mem run) known to
         (and-then ! (load ! (from ! (stop !)) (look ! 21 refl)) (and-then ! (load ! (from ! (stop !)) (look ! 19 refl))
-        (and-then ! (load ! (from ! (stop !)) (look ! 15 refl)) (and-then ! (load ! (from ! (stop !)) (look ! 11 refl))
-        (and-then ! (load ! (from ! (stop !)) (look ! 33 refl)) (and-then ! (load ! (from ! (stop !)) (look ! 31 refl))
-        (and-then ! (load ! (from ! (stop !)) (look ! 29 refl)) (and-then ! (load ! (from ! (stop !)) (look ! 27 refl))
-        (and-then ! (load ! (from ! (stop !)) (look ! 25 refl)) (no-more !)))))))))) (λ w.
-        use1 W (later (some (λ (r : Answered). ((‵ (flft κ₂ q₂) ⊛ ‵ (flft κ₃ q₃) ⊛ ‵ ftrue) ⊛ ‵ (R.the-row .own r (w ∷ [])))
-        ⊛ raw (ensured 𝓤 H A g.ended (g.clauses 𝓤 H A at-mem run) (κ₂, (κ₃, tt)) args tt r)))) (id⊢ 𝓤 _) $ await ! tt $ pick ! (λ r.
+        (and-then ! (load ! (from ! (stop !)) (look ! 15 refl)) (and-then ! (load ! (from ! (stop !)) (look ! 37 refl))
+        (and-then ! (load ! (from ! (stop !)) (look ! 11 refl)) (and-then ! (load ! (from ! (stop !)) (look ! 33 refl))
+        (and-then ! (load ! (from ! (stop !)) (look ! 31 refl)) (and-then ! (load ! (from ! (stop !)) (look ! 29 refl))
+        (and-then ! (load ! (from ! (stop !)) (look ! 27 refl)) (and-then ! (load ! (from ! (stop !)) (look ! 25 refl)) (no-more !))))))))))) (λ w.
+        use1 W (later (some (λ (r : Answered). ((‵ (flft κ₂ q₂) ⊛ ‵ (flft κ₃ q₃) ⊛ ‵ (flft κ₄ q₄) ⊛ ‵ ftrue) ⊛ ‵ (R.the-row .own r (w ∷ [])))
+        ⊛ raw (ensured 𝓤 H A g.ended (g.clauses 𝓤 H A at-mem run) (κ₂, (κ₃, (κ₄, tt))) args tt r)))) (id⊢ 𝓤 _) $ await ! tt $ pick ! (λ r.
         -- what the callee ensures, at some last values
         split ! $ move ! (1 ∷ []) $ use1 W (some
-        (λ (zs : Unit {0} × (Unit {0} × (List ℕ × (List ℕ × (Unit {0} × (Unit {0} × (Unit {0} × (Unit {0} × (Unit {0} × Unit {0}))))))))). ‵
-        (lasts g.ended (κ₂, (κ₃, tt)) args zs) ⊛ raw (fact 𝓤 (Says (zs .1 .1 .0) (zs .1 .1 .1 .0) (r .state) (r .cp15) (r .code))))) (id⊢ 𝓤 _) $
-        pick ! (λ zs.
-        split ! $ move ! (1 ∷ []) $ heard ! (Says (zs .1 .1 .0) (zs .1 .1 .1 .0) (r .state) (r .cp15) (r .code)) (λ e.
+        (λ (zs : Unit {0} × (Unit {0} × (List ℕ × (Unit {0} × (List ℕ × (Unit {0} × (Unit {0} × (Unit {0} × (Unit {0} × (Unit {0}
+        × Unit {0})))))))))). ‵ (lasts g.ended (κ₂, (κ₃, (κ₄, tt))) args zs)
+        ⊛ raw (fact 𝓤 (Says (zs .1 .1 .0) (zs .1 .1 .1 .1 .0) (r .state) (r .cp15) (r .code))))) (id⊢ 𝓤 _) $ pick ! (λ zs.
+        split ! $ move ! (1 ∷ []) $ heard ! (Says (zs .1 .1 .0) (zs .1 .1 .1 .1 .0) (r .state) (r .cp15) (r .code)) (λ e.
         fsplit ! $ drop ! $ fsplit ! $ drop ! $ fsplit ! $ fsplit ! $ move ! (1 ∷ []) $
-        feqL ! (λ memory-len. move ! (1 ∷ []) $ fsplit ! $ fsplit ! $ move ! (1 ∷ []) $ feqL ! (λ store-len. move ! (1 ∷ []) $ drop ! $
+        feqL ! (λ memory-len. move ! (1 ∷ []) $ fsplit ! $ drop ! $ fsplit ! $ fsplit ! $ move ! (1 ∷ []) $
+        feqL ! (λ store-len. move ! (1 ∷ []) $ drop ! $
         move ! (2 ∷ []) $ split ! $ move ! (1 ∷ []) $ peeks ! R.the-row (Is R.the-row) (shows 𝓤 H A R.the-row) r (w ∷ []) (λ is.
         let fields = LL.owed R.the-type R′.the-laws r (w ∷ []) is in
-        -- [what the result owns; the other tokens; the last lists; the record: cell, own, open borrow, obs, auth; the state: the same; _16; …; to
+        -- [what the result owns; the other tokens; the last lists; the record: cell, own, open borrow, obs, auth; the state: the same; _17; …; to
         -- room for _0; …]
         land ! (from ! (stop !)) (init ! 26 refl (LL.lawful R.the-type R′.the-laws 𝓤 H A W .typed r _ is .0)) $
-        rewrite ! 26 (λ (u : Val). ‵ (fat fullShare R′.mir l₁₀ 0 u)) (ap only (LL.tells R.the-type R′.the-laws r (w ∷ []) is)) refl $
-        assigns ! (of-opd ! (load ! (from ! (fld ! refl (stop !))) (look-in ! 26 (sub ! 0 refl (whole !))))) (from ! (hop ! (look ! 44 refl) (stop !)))
+        rewrite ! 26 (λ (u : Val). ‵ (fat fullShare R′.mir l₁₁ 0 u)) (ap only (LL.tells R.the-type R′.the-laws r (w ∷ []) is)) refl $
+        assigns ! (of-opd ! (load ! (from ! (fld ! refl (stop !))) (look-in ! 26 (sub ! 0 refl (whole !))))) (from ! (hop ! (look ! 46 refl) (stop !)))
         (store-raw ! 9 refl (LL.lawful S.the-type S′.the-laws 𝓤 H A W .typed (r .state) _ (fields .0) .0)) $
-        assigns ! (of-opd ! (load ! (from ! (fld ! refl (stop !))) (look-in ! 26 (sub ! 1 refl (whole !))))) (from ! (hop ! (look ! 42 refl) (stop !)))
+        assigns ! (of-opd ! (load ! (from ! (fld ! refl (stop !))) (look-in ! 26 (sub ! 1 refl (whole !))))) (from ! (hop ! (look ! 44 refl) (stop !)))
         (store-raw ! 4 refl (LL.lawful T.the-type T′.the-laws 𝓤 H A W .typed (r .cp15) _ (fields .1 .0) .0)) $
         assigns ! (of-opd ! (load ! (from ! (fld ! refl (stop !))) (look-in ! 26 (sub ! 2 refl (whole !))))) (from ! (stop !))
-        (init ! 46 refl (tt, record { fits = fields .1 .1 .0 .1 })) $
+        (init ! 48 refl (tt, record { fits = fields .1 .1 .0 .1 })) $
         move ! (9 ∷ 10 ∷ 11 ∷ 12 ∷ 13 ∷ []) $ close-lent ! tt S.the-type S′.the-laws S′.the-plain state (r .state) (fields .0) $
         move ! (7 ∷ 8 ∷ 9 ∷ 10 ∷ 11 ∷ []) $ close-lent ! tt T.the-type T′.the-laws T′.the-plain cp15 (r .cp15) (fields .1 .0) $
-        returns ! (look ! 42 refl) $ forget ! 10 refl $ forget ! 12 refl $ forget ! 14 refl $ forget ! 16 refl $ forget ! 18 refl $ forget ! 20 refl $
+        returns ! (look ! 44 refl) $ forget ! 10 refl $ forget ! 12 refl $ forget ! 14 refl $ forget ! 16 refl $ forget ! 18 refl $ forget ! 20 refl $
         forget ! 22 refl $ forget ! 24 refl $ forget ! 26 refl $ forget ! 28 refl $ forget ! 30 refl $ forget ! 32 refl $ forget ! 34 refl $
-        forget ! 36 refl $ forget ! 38 refl $ forget ! 40 refl $ forget ! 42 refl $
-        move ! (42 ∷ 43 ∷ []) $ free1 ! $ move ! (40 ∷ 41 ∷ []) $ free1 ! $ move ! (38 ∷ 39 ∷ []) $ free1 ! $ move ! (36 ∷ 37 ∷ []) $ free1 ! $
-        move ! (34 ∷ 35 ∷ []) $ free1 ! $ move ! (32 ∷ 33 ∷ []) $ free1 ! $ move ! (30 ∷ 31 ∷ []) $ free1 ! $ move ! (28 ∷ 29 ∷ []) $ free1 ! $
-        move ! (26 ∷ 27 ∷ []) $ free1 ! $ move ! (24 ∷ 25 ∷ []) $ free1 ! $ move ! (22 ∷ 23 ∷ []) $ free1 ! $ move ! (20 ∷ 21 ∷ []) $ free1 ! $
-        move ! (18 ∷ 19 ∷ []) $ free1 ! $ move ! (16 ∷ 17 ∷ []) $ free1 ! $ move ! (14 ∷ 15 ∷ []) $ free1 ! $ move ! (12 ∷ 13 ∷ []) $ free1 ! $
-        move ! (10 ∷ 11 ∷ []) $ free1 ! $ free0 ! $
+        forget ! 36 refl $ forget ! 38 refl $ forget ! 40 refl $ forget ! 42 refl $ forget ! 44 refl $
+        move ! (44 ∷ 45 ∷ []) $ free1 ! $ move ! (42 ∷ 43 ∷ []) $ free1 ! $ move ! (40 ∷ 41 ∷ []) $ free1 ! $ move ! (38 ∷ 39 ∷ []) $ free1 ! $
+        move ! (36 ∷ 37 ∷ []) $ free1 ! $ move ! (34 ∷ 35 ∷ []) $ free1 ! $ move ! (32 ∷ 33 ∷ []) $ free1 ! $ move ! (30 ∷ 31 ∷ []) $ free1 ! $
+        move ! (28 ∷ 29 ∷ []) $ free1 ! $ move ! (26 ∷ 27 ∷ []) $ free1 ! $ move ! (24 ∷ 25 ∷ []) $ free1 ! $ move ! (22 ∷ 23 ∷ []) $ free1 ! $
+        move ! (20 ∷ 21 ∷ []) $ free1 ! $ move ! (18 ∷ 19 ∷ []) $ free1 ! $ move ! (16 ∷ 17 ∷ []) $ free1 ! $ move ! (14 ∷ 15 ∷ []) $ free1 ! $
+        move ! (12 ∷ 13 ∷ []) $ free1 ! $ move ! (10 ∷ 11 ∷ []) $ free1 ! $ free0 ! $
         keep ! (3 ∷ 4 ∷ 5 ∷ 0 ∷ 1 ∷ 2 ∷ 7 ∷ 9 ∷ 8 ∷ []) $ by !
-        (exits r (zs .1 .1 .0) (zs .1 .1 .1 .0) (fields .1 .1 .0 .1) e memory-len store-len)))))))))))))))))))))))))))
+        (exits r (zs .1 .1 .0) (zs .1 .1 .1 .1 .0) (fields .1 .1 .0 .1) e memory-len store-len))))))))))))))))))))))))))))
 
 module _ {M : Type 1} (𝓤 : URA M) (H : Heap 𝓤) (A : Atoms 𝓤) (W : Given 𝓤 H A) (at-mem : Memory → SProp 𝓤) (run : Routine → Fun 𝓤) where
   walks : (C : Calls 𝓤 H) (Λ : Loops 𝓤 H) → FmC 𝓤 H (W .laws) C → Triple 𝓤 (C #lent·call-numbers) (Value 𝓤 H A at-mem run)
       → Walks 𝓤 H A f.ended stayed (WpFn 𝓤 H C Λ code.function) (f.clauses 𝓤 H A at-mem run)
   walks C Λ fm known = walked 𝓤 H A f.ended stayed (f.clauses 𝓤 H A at-mem run) (WpFn 𝓤 H C Λ code.function)
-      (λ κs. (ptr-vals, (ptr-vals, (slice-vals, (slice-vals, (uint-vals w32, (uint-vals w32, (uint-vals w32, (uint-vals w32, (uint-vals w32, tt))))))))))
+      (λ κs. (
+        ptr-vals,
+        (
+          ptr-vals,
+          (
+            slice-vals,
+            (slice-vals, (slice-vals, (uint-vals w32, (uint-vals w32, (uint-vals w32, (uint-vals w32, (uint-vals w32, tt))))))),
+          ),
+        ),
+      ))
       (λ κs. (
         mut-tells (named 0) (κs .0) S.the-row,
         (
@@ -341,36 +373,42 @@ module _ {M : Type 1} (𝓤 : URA M) (H : Heap 𝓤) (A : Atoms 𝓤) (W : Given
           (
             mut-slice-tells (named 2) (κs .1 .1 .0) u8,
             (
-              mut-slice-tells (named 3) (κs .1 .1 .1 .0) u8,
-              (uint-tells w32, (uint-tells w32, (uint-tells w32, (uint-tells w32, (uint-tells w32, tt))))),
+              shr-slice-tells (named 3) (κs .1 .1 .1 .0) u8,
+              (
+                mut-slice-tells (named 4) (κs .1 .1 .1 .1 .0) u8,
+                (uint-tells w32, (uint-tells w32, (uint-tells w32, (uint-tells w32, (uint-tells w32, tt))))),
+              ),
             ),
           ),
         ),
       ))
-      (λ κs qs bounds a g are. via 𝓤 _ (fst∗ 𝓤 _ (emp 𝓤)) (walk 𝓤 H A W at-mem run (κs .0) (κs .1 .0) (κs .1 .1 .0) (κs .1 .1 .1 .0) (qs .0)
-      (qs .1 .0) (qs .1 .1 .0) (qs .1 .1 .1 .0) bounds
-      (a .0) (a .1 .0) (a .1 .1 .0) (a .1 .1 .1 .0) (a .1 .1 .1 .1 .0) (a .1 .1 .1 .1 .1 .0) (a .1 .1 .1 .1 .1 .1 .0) (a .1 .1 .1 .1 .1 .1 .1 .0)
-      (a .1 .1 .1 .1 .1 .1 .1 .1 .0) C Λ fm known (are .1 .1 .0) (are .1 .1 .1 .0) (are .1 .1 .1 .1 .0 .1) (are .1 .1 .1 .1 .1 .0 .1)
-      (are .1 .1 .1 .1 .1 .1 .0 .1) (are .1 .1 .1 .1 .1 .1 .1 .0 .1) (are .1 .1 .1 .1 .1 .1 .1 .1 .0 .1)))
+      (λ κs qs bounds a g are. via 𝓤 _ (fst∗ 𝓤 _ (emp 𝓤)) (walk 𝓤 H A W at-mem run (κs .0) (κs .1 .0) (κs .1 .1 .0) (κs .1 .1 .1 .0) (κs .1 .1 .1 .1 .0)
+      (qs .0) (qs .1 .0) (qs .1 .1 .0) (qs .1 .1 .1 .0) (qs .1 .1 .1 .1 .0) bounds (a .0) (a .1 .0) (a .1 .1 .0) (a .1 .1 .1 .0) (a .1 .1 .1 .1 .0)
+      (a .1 .1 .1 .1 .1 .0) (a .1 .1 .1 .1 .1 .1 .0) (a .1 .1 .1 .1 .1 .1 .1 .0) (a .1 .1 .1 .1 .1 .1 .1 .1 .0) (a .1 .1 .1 .1 .1 .1 .1 .1 .1 .0) C Λ fm
+      known (are .1 .1 .0) (are .1 .1 .1 .0) (are .1 .1 .1 .1 .0) (are .1 .1 .1 .1 .1 .0 .1) (are .1 .1 .1 .1 .1 .1 .0 .1)
+      (are .1 .1 .1 .1 .1 .1 .1 .0 .1) (are .1 .1 .1 .1 .1 .1 .1 .1 .0 .1) (are .1 .1 .1 .1 .1 .1 .1 .1 .1 .0 .1)))
 
-  goes-all : AllGo 𝓤 H A W 4 (f.signature .params) (f.ended .kept) stayed
+  goes-all : AllGo 𝓤 H A W 5 (f.signature .params) (f.ended .kept) stayed
   goes-all = (
-    goes-ref 𝓤 H A W 4 0 tt (plain (λ _. S.the-row)),
+    goes-ref 𝓤 H A W 5 0 tt (plain (λ _. S.the-row)),
     (
-      goes-ref 𝓤 H A W 4 1 tt (plain (λ _. T.the-row)),
+      goes-ref 𝓤 H A W 5 1 tt (plain (λ _. T.the-row)),
       (
-        goes-gave-slice 𝓤 H A W 4 2 tt (plain (λ _. u8)),
+        goes-gave-slice 𝓤 H A W 5 2 tt (plain (λ _. u8)),
         (
-          goes-gave-slice 𝓤 H A W 4 3 tt (plain (λ _. u8)),
+          goes-dropped 𝓤 H A W 5 bad-slot yes (λ κs x f. refl),
           (
-            goes-dropped 𝓤 H A W 4 number yes (λ κs x f. refl),
+            goes-gave-slice 𝓤 H A W 5 4 tt (plain (λ _. u8)),
             (
-              goes-dropped 𝓤 H A W 4 number yes (λ κs x f. refl),
+              goes-dropped 𝓤 H A W 5 number yes (λ κs x f. refl),
               (
-                goes-dropped 𝓤 H A W 4 number yes (λ κs x f. refl),
+                goes-dropped 𝓤 H A W 5 number yes (λ κs x f. refl),
                 (
-                  goes-dropped 𝓤 H A W 4 number yes (λ κs x f. refl),
-                  (goes-dropped 𝓤 H A W 4 number yes (λ κs x f. refl), tt),
+                  goes-dropped 𝓤 H A W 5 number yes (λ κs x f. refl),
+                  (
+                    goes-dropped 𝓤 H A W 5 number yes (λ κs x f. refl),
+                    (goes-dropped 𝓤 H A W 5 number yes (λ κs x f. refl), tt),
+                  ),
                 ),
               ),
             ),

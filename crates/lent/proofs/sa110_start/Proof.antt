@@ -151,7 +151,7 @@ module _ {M : Type 1} (𝓤 : URA M) (H : Heap 𝓤) (A : Atoms 𝓤) (W : Given
 
   -- what the contract says of the last state and record, and of the result
   abbrev Says : State → Cp15 → ℕ → Type 0
-  Says s c y = startedOf (memory .now) (store .now) (record { state = s; cp15 = c; refusal = y }) ≡ started (memory .now) (store .now)
+  Says s c y = (bad : List ℕ) → startedOf (memory .now) bad (store .now) (record { state = s; cp15 = c; refusal = y }) ≡ started (memory .now) bad (store .now)
 
   -- what the callee is passed, and what it asks
   abbrev args : RefT (List ℕ) × (RefT (List ℕ) × Unit {0})

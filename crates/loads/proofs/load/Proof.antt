@@ -19,7 +19,7 @@ enum-known-found c = search needs
 load-hit-requires : tie.Need-load-hit-requires
 load-hit-requires c κs =
     let arm-found = c .before .before in let after-find = arm-found .before .before in
-    let start = after-find .before .before .before .before .before .before .before .before in (
+    let start = after-find .before .before .before .before .before .before .before .before .before in (
       start .pre .0 .store-long,
       find-low (now (start .args .lines)) _ _ (start .pre .0 .lines-long)
           (sym (after-find .find .ensures) ∙ arm-found .found .given .1),
@@ -42,9 +42,9 @@ same-length-2 c = search needs
 returns : tie.Need-returns
 returns c =
     let arm-found = c .before .before .before in let after-find = arm-found .before .before in let after-cleared = after-find .before .before in
-    let start = after-cleared .before .before .before .before .before .before in
+    let start = after-cleared .before .before .before .before .before .before .before in
     let a = start .args in
-    let l = (lists (now (a .memory)) (now (a .words)) (now (a .bytes)) (now (a .lines)) (now (a .pointers)) (now (a .store))) in
+    let l = (lists (now (a .memory)) (now (a .bad)) (now (a .words)) (now (a .bytes)) (now (a .lines)) (now (a .pointers)) (now (a .store))) in
     record {
       same = λ es n. c .load-hit .ensures l es n refl ∙ sym
           (found-hit (machineOf l es (a .s) n) (a .a) (a .p) _ _ (after-cleared .cleared .ensures)
@@ -71,9 +71,9 @@ returns-2 : tie.Need-returns-2
 returns-2 c =
     let after-load-miss = c .before .before .before .before .before .before .before .before .before .before in
     let arm-told = after-load-miss .before .before .before .before .before .before .before in let after-find = arm-told .before .before in
-    let after-cleared = after-find .before .before in let start = after-cleared .before .before .before .before .before .before in
+    let after-cleared = after-find .before .before in let start = after-cleared .before .before .before .before .before .before .before in
     let a = start .args in
-    let l = (lists (now (a .memory)) (now (a .words)) (now (a .bytes)) (now (a .lines)) (now (a .pointers)) (now (a .store))) in
+    let l = (lists (now (a .memory)) (now (a .bad)) (now (a .words)) (now (a .bytes)) (now (a .lines)) (now (a .pointers)) (now (a .store))) in
     record {
       same = λ es n. after-load-miss .load-miss .ensures .same es n ∙ sym
           (found-none (machineOf l es (a .s) n) (a .a) (a .p) _ (after-cleared .cleared .ensures)

@@ -13,8 +13,8 @@ state-refusal-requires c κs = search needs
 
 returns : tie.Need-returns
 returns c = let after-state-refusal = c .before in
-    let start = after-state-refusal .before .before .before in
-    let a = start .args in shown-refused (machineIn (now (a .memory)) (now (a .store)) (a .state) (a .cp15)) (a .va) _
+    let start = after-state-refusal .before .before .before .before in
+    let a = start .args in shown-refused (machineIn (now (a .memory)) (now (a .bad)) (now (a .store)) (a .state) (a .cp15)) (a .va) _
     (after-state-refusal .state-refusal .ensures) (c .if1 .taken)
 
 slice-aggregate-find : tie.Need-slice-aggregate-find
@@ -31,9 +31,9 @@ enum-told c = search needs
 
 uncached-line-requires : tie.Need-uncached-line-requires
 uncached-line-requires c κs =
-    let good = c .before .before .before .before .before .before .before .before .before .before .good .0 in
-    let a = c .before .before .before .before .before .before .before .before .before .before .args in
-    let m = machineIn (now (a .memory)) (now (a .store)) (a .state) (a .cp15) in
+    let good = c .before .before .before .before .before .before .before .before .before .before .before .good .0 in
+    let a = c .before .before .before .before .before .before .before .before .before .before .before .args in
+    let m = machineIn (now (a .memory)) (now (a .bad)) (now (a .store)) (a .state) (a .cp15) in
     let ls : length (a .state .lines) ≡ 512 = search (needs, good) in
     let else1 = c .before .before .before .before .before .before in let after-state-refusal = else1 .before in
     base-whole m (a .va) _ (after-state-refusal .state-refusal .ensures) (else1 .if1 .left) (length-map (a .state .lines) lineOf ∙ ls)
@@ -43,9 +43,9 @@ returns-2 c = let after-found = c .before in
     let after-find = after-found .before .before in
     let else1 = after-find .before .before .before .before in
     let after-state-refusal = else1 .before in
-    let start = after-state-refusal .before .before .before in
+    let start = after-state-refusal .before .before .before .before in
     let a = start .args in
-    let m = machineIn (now (a .memory)) (now (a .store)) (a .state) (a .cp15) in
+    let m = machineIn (now (a .memory)) (now (a .bad)) (now (a .store)) (a .state) (a .cp15) in
     sym (shown-by m (a .va) _ (after-state-refusal .state-refusal .ensures) (else1 .if1 .left) _
     (sym (after-found .found .given .1) ∙ after-find .find .ensures))
 
@@ -54,9 +54,9 @@ returns-3 c = let after-enum-told = c .before in
     let after-find = after-enum-told .before .before in
     let else1 = after-find .before .before .before .before in
     let after-state-refusal = else1 .before in
-    let start = after-state-refusal .before .before .before in
+    let start = after-state-refusal .before .before .before .before in
     let a = start .args in
-    let m = machineIn (now (a .memory)) (now (a .store)) (a .state) (a .cp15) in
+    let m = machineIn (now (a .memory)) (now (a .bad)) (now (a .store)) (a .state) (a .cp15) in
     c .uncached-line .ensures ∙ sym (shown-by m (a .va) _ (after-state-refusal .state-refusal .ensures) (else1 .if1 .left) _
     (sym (after-enum-told .enum-told .given .1) ∙ after-find .find .ensures))
 

@@ -16,7 +16,7 @@ mapped-line-requires c κs = search needs
 
 returns : tie.Need-returns
 returns c =
-    let then1 = c .before .before in let after-mmu = then1 .before in let start = after-mmu .before .before in
+    let then1 = c .before .before in let after-mmu = then1 .before in let start = after-mmu .before .before .before in
     let f : mmu (start .args .r) ≡ true = sym (after-mmu .mmu .ensures) ∙ then1 .if1 .taken in
     rw (f, ← c .before .walk .ensures .same) (c .mapped-line .ensures)
 
@@ -25,7 +25,7 @@ memory-line-requires c κs = search needs
 
 returns-2 : tie.Need-returns-2
 returns-2 c =
-    let after-mmu = c .before .before in let start = after-mmu .before .before in
+    let after-mmu = c .before .before in let start = after-mmu .before .before .before in
     let f : mmu (start .args .r) ≡ false = sym (after-mmu .mmu .ensures) ∙ c .before .if1 .left in rw f (c .memory-line .ensures)
 
 pub uncached-line-spec : {M : Type 1} → statement M

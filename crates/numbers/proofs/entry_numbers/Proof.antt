@@ -3,59 +3,45 @@ use borrow.Author.Needs.{needs}
 use Rattle.numbers.proofs.entry_numbers.Statement.{statement}
 use Rattle.numbers.proofs.entry_numbers.Tie as tie
 
--- src/lib.rt:51:9
 cast-t3 : tie.Need-cast-t3
 cast-t3 c = search needs
 
--- src/lib.rt:52:9
 cast-t6 : tie.Need-cast-t6
 cast-t6 c = search needs
 
--- src/lib.rt:53:10
 mul-t8 : tie.Need-mul-t8
 mul-t8 c = search needs
 
--- src/lib.rt:53:9
 cast-t9 : tie.Need-cast-t9
 cast-t9 c = search needs
 
--- src/lib.rt:54:10
 mul-t12 : tie.Need-mul-t12
 mul-t12 c = search needs
 
--- src/lib.rt:54:9
 cast-t13 : tie.Need-cast-t13
 cast-t13 c = search needs
 
--- src/lib.rt:55:9
 cast-t16 : tie.Need-cast-t16
 cast-t16 c = search needs
 
--- src/lib.rt:56:9
 cast-t19 : tie.Need-cast-t19
 cast-t19 c = search needs
 
--- src/lib.rt:57:9
 cast-t22 : tie.Need-cast-t22
 cast-t22 c = search needs
 
--- src/lib.rt:58:9
 cast-t25 : tie.Need-cast-t25
 cast-t25 c = search needs
 
--- src/lib.rt:59:9
 cast-t28 : tie.Need-cast-t28
 cast-t28 c = search needs
 
--- src/lib.rt:60:9
 cast-t31 : tie.Need-cast-t31
 cast-t31 c = search needs
 
--- src/lib.rt:61:9
 cast-t34 : tie.Need-cast-t34
 cast-t34 c = search needs
 
--- src/lib.rt:47:1
 returns : tie.Need-returns
 returns c = entry-listed (c .args .w)
 

@@ -4,119 +4,90 @@ use borrow.Author.Needs.{needs}
 use Rattle.numbers.proofs.entry_word.Statement.{statement}
 use Rattle.numbers.proofs.entry_word.Tie as tie
 
--- src/lib.rt:156:17
 cast-bases : tie.Need-cast-bases
 cast-bases c = search needs
 
--- src/lib.rt:156:55
 cast-bases-2 : tie.Need-cast-bases-2
 cast-bases-2 c = search needs
 
--- src/lib.rt:156:43
 mul-bases : tie.Need-mul-bases
 mul-bases c = search needs
 
--- src/lib.rt:156:17
 add-bases : tie.Need-add-bases
 add-bases c = search needs
 
--- src/lib.rt:157:58
 mul-rights : tie.Need-mul-rights
 mul-rights c = search needs
 
--- src/lib.rt:157:48
 add-rights : tie.Need-add-rights
 add-rights c = search needs
 
--- src/lib.rt:157:43
 mul-rights-2 : tie.Need-mul-rights-2
 mul-rights-2 c = search needs
 
--- src/lib.rt:157:33
 add-rights-2 : tie.Need-add-rights-2
 add-rights-2 c = search needs
 
--- src/lib.rt:157:28
 mul-rights-3 : tie.Need-mul-rights-3
 mul-rights-3 c = search needs
 
--- src/lib.rt:157:18
 add-rights-3 : tie.Need-add-rights-3
 add-rights-3 c = search needs
 
--- src/lib.rt:158:16
 cast-high : tie.Need-cast-high
 cast-high c = search needs
 
--- src/lib.rt:158:51
 cast-high-2 : tie.Need-cast-high-2
 cast-high-2 c = search needs
 
--- src/lib.rt:158:67
 mul-high : tie.Need-mul-high
 mul-high c = search needs
 
--- src/lib.rt:158:51
 add-high : tie.Need-add-high
 add-high c = search needs
 
--- src/lib.rt:158:42
 mul-high-2 : tie.Need-mul-high-2
 mul-high-2 c = search needs
 
--- src/lib.rt:158:16
 add-high-2 : tie.Need-add-high-2
 add-high-2 c = search needs
 
--- src/lib.rt:159:16
 cast-kind : tie.Need-cast-kind
 cast-kind c = search needs
 
--- src/lib.rt:159:37
 mul-kind : tie.Need-mul-kind
 mul-kind c = search needs
 
--- src/lib.rt:159:16
 add-kind : tie.Need-add-kind
 add-kind c = search needs
 
--- src/lib.rt:160:5
 cast-result : tie.Need-cast-result
 cast-result c = search needs
 
--- src/lib.rt:160:31
 cast-result-2 : tie.Need-cast-result-2
 cast-result-2 c = search needs
 
--- src/lib.rt:160:61
 cast-result-3 : tie.Need-cast-result-3
 cast-result-3 c = search needs
 
--- src/lib.rt:160:87
 mul-result : tie.Need-mul-result
 mul-result c = search needs
 
--- src/lib.rt:160:61
 add-result : tie.Need-add-result
 add-result c = search needs
 
--- src/lib.rt:160:56
 mul-result-2 : tie.Need-mul-result-2
 mul-result-2 c = search needs
 
--- src/lib.rt:160:31
 add-result-2 : tie.Need-add-result-2
 add-result-2 c = search needs
 
--- src/lib.rt:160:26
 mul-result-3 : tie.Need-mul-result-3
 mul-result-3 c = search needs
 
--- src/lib.rt:160:5
 add-result-3 : tie.Need-add-result-3
 add-result-3 c = search needs
 
--- src/lib.rt:140:1
 returns : tie.Need-returns
 returns c = let a = c .args in
     entry-packs (a .valid) (a .size) (a .vbase) (a .pbase) (a .domain) (a .ap0) (a .ap1) (a .ap2) (a .ap3) (a .cacheable) (a .bufferable) _ refl

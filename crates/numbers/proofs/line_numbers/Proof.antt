@@ -3,27 +3,21 @@ use borrow.Author.Needs.{needs}
 use Rattle.numbers.proofs.line_numbers.Statement.{statement}
 use Rattle.numbers.proofs.line_numbers.Tie as tie
 
--- src/lib.rt:70:9
 cast-t3 : tie.Need-cast-t3
 cast-t3 c = search needs
 
--- src/lib.rt:71:9
 cast-t6 : tie.Need-cast-t6
 cast-t6 c = search needs
 
--- src/lib.rt:72:9
 cast-t8 : tie.Need-cast-t8
 cast-t8 c = search needs
 
--- src/lib.rt:73:9
 cast-t11 : tie.Need-cast-t11
 cast-t11 c = search needs
 
--- src/lib.rt:74:9
 cast-t14 : tie.Need-cast-t14
 cast-t14 c = search needs
 
--- src/lib.rt:66:1
 returns : tie.Need-returns
 returns c = line-listed (c .args .w)
 

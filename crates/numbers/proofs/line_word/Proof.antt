@@ -4,55 +4,42 @@ use borrow.Author.Needs.{needs}
 use Rattle.numbers.proofs.line_word.Statement.{statement}
 use Rattle.numbers.proofs.line_word.Tie as tie
 
--- src/lib.rt:201:17
 cast-place : tie.Need-cast-place
 cast-place c = search needs
 
--- src/lib.rt:201:47
 mul-place : tie.Need-mul-place
 mul-place c = search needs
 
--- src/lib.rt:201:17
 add-place : tie.Need-add-place
 add-place c = search needs
 
--- src/lib.rt:202:5
 cast-result : tie.Need-cast-result
 cast-result c = search needs
 
--- src/lib.rt:202:31
 cast-result-2 : tie.Need-cast-result-2
 cast-result-2 c = search needs
 
--- src/lib.rt:202:55
 cast-result-3 : tie.Need-cast-result-3
 cast-result-3 c = search needs
 
--- src/lib.rt:202:75
 mul-result : tie.Need-mul-result
 mul-result c = search needs
 
--- src/lib.rt:202:55
 add-result : tie.Need-add-result
 add-result c = search needs
 
--- src/lib.rt:202:50
 mul-result-2 : tie.Need-mul-result-2
 mul-result-2 c = search needs
 
--- src/lib.rt:202:31
 add-result-2 : tie.Need-add-result-2
 add-result-2 c = search needs
 
--- src/lib.rt:202:26
 mul-result-3 : tie.Need-mul-result-3
 mul-result-3 c = search needs
 
--- src/lib.rt:202:5
 add-result-3 : tie.Need-add-result-3
 add-result-3 c = search needs
 
--- src/lib.rt:198:1
 returns : tie.Need-returns
 returns c = let a = c .args in
     line-packs (a .tag) (a .frame) (a .valid) (a .low) (a .high) _ refl

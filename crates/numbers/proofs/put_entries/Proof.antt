@@ -23,44 +23,34 @@ Inv-loop numbers₀ from entries at₀ i₀ numbers at i = Filling entryLine 11 
 abbrev μ-loop : tie.MeasureT-loop
 μ-loop numbers₀ from entries at₀ i₀ numbers at i = length entries - i
 
--- src/lib.rt:100:5
 loop-holds : tie.Need-loop-holds Inv-loop μ-loop
 loop-holds c = let a = c .before .before .args in
     (filling-start entryLine 11 entry-long (now (a .numbers)) (a .from) (entriesOf (now (a .entries))), omega arith)
 
--- src/lib.rt:101:34
 mul-entry-numbers : tie.Need-mul-entry-numbers Inv-loop μ-loop
 mul-entry-numbers c = search needs
 
--- src/lib.rt:101:34
 shared-slice-read-entry-numbers : tie.Need-shared-slice-read-entry-numbers Inv-loop μ-loop
 shared-slice-read-entry-numbers c = search needs
 
--- src/lib.rt:101:20
 entry-numbers-requires : tie.Need-entry-numbers-requires Inv-loop μ-loop
 entry-numbers-requires c κs = search needs
 
--- src/lib.rt:102:26
 slice-aggregate-put : tie.Need-slice-aggregate-put Inv-loop μ-loop
 slice-aggregate-put c = search needs
 
--- src/lib.rt:102:9
 put-requires : tie.Need-put-requires Inv-loop μ-loop
 put-requires c κs = search needs
 
--- src/lib.rt:103:9
 add-at : tie.Need-add-at Inv-loop μ-loop
 add-at c = search needs
 
--- src/lib.rt:104:9
 add-i : tie.Need-add-i Inv-loop μ-loop
 add-i c = search needs
 
--- src/lib.rt:100:5
 loop-less : tie.Need-loop-less Inv-loop μ-loop
 loop-less c = search needs
 
--- src/lib.rt:100:5
 loop-again : tie.Need-loop-again Inv-loop μ-loop
 loop-again c = let after-put = c .before .before in
     let after-numbers = after-put .before .before .before in
@@ -80,11 +70,9 @@ loop-again c = let after-put = c .before .before in
       omega (arith, place),
     )
 
--- src/lib.rt:94:1
 same-length : tie.Need-same-length Inv-loop μ-loop
 same-length c = c .before .loop .inv .0 .long
 
--- src/lib.rt:94:1
 returns : tie.Need-returns Inv-loop μ-loop
 returns c = let l = c .before .loop in
     let a = c .before .before .before .before .args in

@@ -6,39 +6,30 @@ use borrow.Author.Needs.{needs}
 use Rattle.numbers.proofs.put_head.Statement.{statement}
 use Rattle.numbers.proofs.put_head.Tie as tie
 
--- src/lib.rt:302:9
 cast-t10 : tie.Need-cast-t10
 cast-t10 c = search needs
 
--- src/lib.rt:305:21
 slice-aggregate-put : tie.Need-slice-aggregate-put
 slice-aggregate-put c = search needs
 
--- src/lib.rt:305:5
 put-requires : tie.Need-put-requires
 put-requires c κs = search needs
 
--- src/lib.rt:306:5
 put-requires-2 : tie.Need-put-requires-2
 put-requires-2 c κs = search needs
 
--- src/lib.rt:308:9
 cast-t10-2 : tie.Need-cast-t10-2
 cast-t10-2 c = search needs
 
--- src/lib.rt:315:22
 slice-aggregate-put-2 : tie.Need-slice-aggregate-put-2
 slice-aggregate-put-2 c = search needs
 
--- src/lib.rt:315:5
 put-requires-3 : tie.Need-put-requires-3
 put-requires-3 c κs = search needs
 
--- src/lib.rt:283:1
 same-length : tie.Need-same-length
 same-length c = search needs
 
--- src/lib.rt:283:1
 returns : tie.Need-returns
 returns c = let after3 = c .before .before in
     let after2 = after3 .before .before .before .before .before in

@@ -23,44 +23,34 @@ Inv-loop numbers₀ from lines at₀ i₀ numbers at i = Filling cacheLine 5 lin
 abbrev μ-loop : tie.MeasureT-loop
 μ-loop numbers₀ from lines at₀ i₀ numbers at i = length lines - i
 
--- src/lib.rt:115:5
 loop-holds : tie.Need-loop-holds Inv-loop μ-loop
 loop-holds c = let a = c .before .before .args in
     (filling-start cacheLine 5 line-long (now (a .numbers)) (a .from) (linesOf (now (a .lines))), omega arith)
 
--- src/lib.rt:116:33
 mul-line-numbers : tie.Need-mul-line-numbers Inv-loop μ-loop
 mul-line-numbers c = search needs
 
--- src/lib.rt:116:33
 shared-slice-read-line-numbers : tie.Need-shared-slice-read-line-numbers Inv-loop μ-loop
 shared-slice-read-line-numbers c = search needs
 
--- src/lib.rt:116:20
 line-numbers-requires : tie.Need-line-numbers-requires Inv-loop μ-loop
 line-numbers-requires c κs = search needs
 
--- src/lib.rt:117:26
 slice-aggregate-put : tie.Need-slice-aggregate-put Inv-loop μ-loop
 slice-aggregate-put c = search needs
 
--- src/lib.rt:117:9
 put-requires : tie.Need-put-requires Inv-loop μ-loop
 put-requires c κs = search needs
 
--- src/lib.rt:118:9
 add-at : tie.Need-add-at Inv-loop μ-loop
 add-at c = search needs
 
--- src/lib.rt:119:9
 add-i : tie.Need-add-i Inv-loop μ-loop
 add-i c = search needs
 
--- src/lib.rt:115:5
 loop-less : tie.Need-loop-less Inv-loop μ-loop
 loop-less c = search needs
 
--- src/lib.rt:115:5
 loop-again : tie.Need-loop-again Inv-loop μ-loop
 loop-again c = let after-put = c .before .before in
     let after-numbers = after-put .before .before .before in
@@ -80,11 +70,9 @@ loop-again c = let after-put = c .before .before in
       omega (arith, place),
     )
 
--- src/lib.rt:109:1
 same-length : tie.Need-same-length Inv-loop μ-loop
 same-length c = c .before .loop .inv .0 .long
 
--- src/lib.rt:109:1
 returns : tie.Need-returns Inv-loop μ-loop
 returns c = let l = c .before .loop in
     let a = c .before .before .before .before .args in

@@ -22,52 +22,40 @@ Inv-loop numbers₀ from words bytes at₀ i₀ numbers at i = Filling bufferLin
 abbrev μ-loop : tie.MeasureT-loop
 μ-loop numbers₀ from words bytes at₀ i₀ numbers at i = length words - i
 
--- src/lib.rt:131:5
 loop-holds : tie.Need-loop-holds Inv-loop μ-loop
 loop-holds c = let a = c .before .before .args in
     (filling-start bufferLine 18 slot-long (now (a .numbers)) (a .from) (slotsOf (now (a .words)) (now (a .bytes))), omega arith)
 
--- src/lib.rt:132:33
 mul-slot-numbers : tie.Need-mul-slot-numbers Inv-loop μ-loop
 mul-slot-numbers c = search needs
 
--- src/lib.rt:132:33
 shared-slice-read-slot-numbers : tie.Need-shared-slice-read-slot-numbers Inv-loop μ-loop
 shared-slice-read-slot-numbers c = search needs
 
--- src/lib.rt:132:43
 mul-slot-numbers-2 : tie.Need-mul-slot-numbers-2 Inv-loop μ-loop
 mul-slot-numbers-2 c = search needs
 
--- src/lib.rt:132:43
 shared-slice-copy-out-slot-numbers : tie.Need-shared-slice-copy-out-slot-numbers Inv-loop μ-loop
 shared-slice-copy-out-slot-numbers c = search needs
 
--- src/lib.rt:132:20
 slot-numbers-requires : tie.Need-slot-numbers-requires Inv-loop μ-loop
 slot-numbers-requires c κs = search needs
 
--- src/lib.rt:133:26
 slice-aggregate-put : tie.Need-slice-aggregate-put Inv-loop μ-loop
 slice-aggregate-put c = search needs
 
--- src/lib.rt:133:9
 put-requires : tie.Need-put-requires Inv-loop μ-loop
 put-requires c κs = search needs
 
--- src/lib.rt:134:9
 add-at : tie.Need-add-at Inv-loop μ-loop
 add-at c = search needs
 
--- src/lib.rt:135:9
 add-i : tie.Need-add-i Inv-loop μ-loop
 add-i c = search needs
 
--- src/lib.rt:131:5
 loop-less : tie.Need-loop-less Inv-loop μ-loop
 loop-less c = search needs
 
--- src/lib.rt:131:5
 loop-again : tie.Need-loop-again Inv-loop μ-loop
 loop-again c = let after-put = c .before .before in
     let after-numbers = after-put .before .before .before in
@@ -90,11 +78,9 @@ loop-again c = let after-put = c .before .before in
       omega (arith, place),
     )
 
--- src/lib.rt:124:1
 same-length : tie.Need-same-length Inv-loop μ-loop
 same-length c = c .before .loop .inv .0 .long
 
--- src/lib.rt:124:1
 returns : tie.Need-returns Inv-loop μ-loop
 returns c = let l = c .before .loop in
     let a = c .before .before .before .before .args in

@@ -10,43 +10,33 @@ use borrow.Author.Needs.{needs}
 use Rattle.numbers.proofs.read_all.Statement.{statement}
 use Rattle.numbers.proofs.read_all.Tie as tie
 
--- src/lib.rt:391:9
 read-head-requires : tie.Need-read-head-requires
 read-head-requires c κs = search needs
 
--- src/lib.rt:392:8
 read-entries-requires : tie.Need-read-entries-requires
 read-entries-requires c κs = search needs
 
--- src/lib.rt:393:12
 read-lines-requires : tie.Need-read-lines-requires
 read-lines-requires c κs = search needs
 
--- src/lib.rt:394:17
 read-slots-requires : tie.Need-read-slots-requires
 read-slots-requires c κs = search needs
 
--- src/lib.rt:395:13
 same-length : tie.Need-same-length
 same-length c = search needs
 
--- src/lib.rt:395:13
 same-length-2 : tie.Need-same-length-2
 same-length-2 c = search needs
 
--- src/lib.rt:395:13
 same-length-3 : tie.Need-same-length-3
 same-length-3 c = search needs
 
--- src/lib.rt:395:13
 same-length-4 : tie.Need-same-length-4
 same-length-4 c = search needs
 
--- src/lib.rt:395:13
 same-length-5 : tie.Need-same-length-5
 same-length-5 c = search needs
 
--- src/lib.rt:395:13
 returns : tie.Need-returns
 returns c = let after-slots = c .before .before .before in
     let then2 = after-slots .before .before .before in
@@ -62,19 +52,15 @@ returns c = let after-slots = c .before .before .before in
     (things-as cacheLine LineHolds emptyLine _ 512 _ _ _ true (lengths .lines-long) (then2 .if2 .taken) (after-lines .read-lines .ensures))
     (things-as bufferLine SlotHolds emptySlot _ 8 _ _ _ _ (lengths .words-long) refl (after-slots .read-slots .ensures))
 
--- src/lib.rt:379:1
 same-length-6 : tie.Need-same-length-6
 same-length-6 c = search needs
 
--- src/lib.rt:379:1
 same-length-7 : tie.Need-same-length-7
 same-length-7 c = search needs
 
--- src/lib.rt:379:1
 same-length-8 : tie.Need-same-length-8
 same-length-8 c = search needs
 
--- src/lib.rt:379:1
 returns-2 : tie.Need-returns-2
 returns-2 c = let after-lines = c .before .before .before in
     let then1 = after-lines .before .before in
@@ -86,15 +72,12 @@ returns-2 c = let after-lines = c .before .before .before in
     no-lines (now (a .numbers)) _ _ _ _ (after-head .read-head .ensures .0) (after-head .read-head .ensures .1) _
     (things-as cacheLine LineHolds emptyLine _ 512 _ _ _ false (lengths .lines-long) (c .if2 .left) (after-lines .read-lines .ensures))
 
--- src/lib.rt:379:1
 same-length-9 : tie.Need-same-length-9
 same-length-9 c = search needs
 
--- src/lib.rt:379:1
 same-length-10 : tie.Need-same-length-10
 same-length-10 c = search needs
 
--- src/lib.rt:379:1
 returns-3 : tie.Need-returns-3
 returns-3 c = let after-entries = c .before .before .before in
     let after-head = after-entries .before .before .before .before in

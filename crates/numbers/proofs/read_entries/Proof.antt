@@ -28,168 +28,127 @@ Inv-loop numbers from entries₀ at₀ i₀ entries at i = Reading entryLine 11 
 abbrev μ-loop : tie.MeasureT-loop
 μ-loop numbers from entries₀ at₀ i₀ entries at i = length entries₀ - i
 
--- src/lib.rt:175:5
 loop-holds : tie.Need-loop-holds Inv-loop μ-loop
 loop-holds c = let a = c .before .before .args in
     (reading-start entryLine 11 entry-wide (length (now (a .entries))) (now (a .numbers)) (a .from) (entriesOf (now (a .entries))), refl)
 
--- src/lib.rt:177:13
 mul-entry-word : tie.Need-mul-entry-word Inv-loop μ-loop
 mul-entry-word c = search needs
 
--- src/lib.rt:177:13
 shared-slice-read-entry-word : tie.Need-shared-slice-read-entry-word Inv-loop μ-loop
 shared-slice-read-entry-word c = search needs
 
--- src/lib.rt:178:21
 add-entry-word : tie.Need-add-entry-word Inv-loop μ-loop
 add-entry-word c = search needs
 
--- src/lib.rt:178:13
 mul-entry-word-2 : tie.Need-mul-entry-word-2 Inv-loop μ-loop
 mul-entry-word-2 c = search needs
 
--- src/lib.rt:178:13
 shared-slice-read-entry-word-2 : tie.Need-shared-slice-read-entry-word-2 Inv-loop μ-loop
 shared-slice-read-entry-word-2 c = search needs
 
--- src/lib.rt:179:21
 add-entry-word-2 : tie.Need-add-entry-word-2 Inv-loop μ-loop
 add-entry-word-2 c = search needs
 
--- src/lib.rt:179:13
 mul-entry-word-3 : tie.Need-mul-entry-word-3 Inv-loop μ-loop
 mul-entry-word-3 c = search needs
 
--- src/lib.rt:179:13
 shared-slice-read-entry-word-3 : tie.Need-shared-slice-read-entry-word-3 Inv-loop μ-loop
 shared-slice-read-entry-word-3 c = search needs
 
--- src/lib.rt:180:21
 add-entry-word-3 : tie.Need-add-entry-word-3 Inv-loop μ-loop
 add-entry-word-3 c = search needs
 
--- src/lib.rt:180:13
 mul-entry-word-4 : tie.Need-mul-entry-word-4 Inv-loop μ-loop
 mul-entry-word-4 c = search needs
 
--- src/lib.rt:180:13
 shared-slice-read-entry-word-4 : tie.Need-shared-slice-read-entry-word-4 Inv-loop μ-loop
 shared-slice-read-entry-word-4 c = search needs
 
--- src/lib.rt:181:21
 add-entry-word-4 : tie.Need-add-entry-word-4 Inv-loop μ-loop
 add-entry-word-4 c = search needs
 
--- src/lib.rt:181:13
 mul-entry-word-5 : tie.Need-mul-entry-word-5 Inv-loop μ-loop
 mul-entry-word-5 c = search needs
 
--- src/lib.rt:181:13
 shared-slice-read-entry-word-5 : tie.Need-shared-slice-read-entry-word-5 Inv-loop μ-loop
 shared-slice-read-entry-word-5 c = search needs
 
--- src/lib.rt:182:21
 add-entry-word-5 : tie.Need-add-entry-word-5 Inv-loop μ-loop
 add-entry-word-5 c = search needs
 
--- src/lib.rt:182:13
 mul-entry-word-6 : tie.Need-mul-entry-word-6 Inv-loop μ-loop
 mul-entry-word-6 c = search needs
 
--- src/lib.rt:182:13
 shared-slice-read-entry-word-6 : tie.Need-shared-slice-read-entry-word-6 Inv-loop μ-loop
 shared-slice-read-entry-word-6 c = search needs
 
--- src/lib.rt:183:21
 add-entry-word-6 : tie.Need-add-entry-word-6 Inv-loop μ-loop
 add-entry-word-6 c = search needs
 
--- src/lib.rt:183:13
 mul-entry-word-7 : tie.Need-mul-entry-word-7 Inv-loop μ-loop
 mul-entry-word-7 c = search needs
 
--- src/lib.rt:183:13
 shared-slice-read-entry-word-7 : tie.Need-shared-slice-read-entry-word-7 Inv-loop μ-loop
 shared-slice-read-entry-word-7 c = search needs
 
--- src/lib.rt:184:21
 add-entry-word-7 : tie.Need-add-entry-word-7 Inv-loop μ-loop
 add-entry-word-7 c = search needs
 
--- src/lib.rt:184:13
 mul-entry-word-8 : tie.Need-mul-entry-word-8 Inv-loop μ-loop
 mul-entry-word-8 c = search needs
 
--- src/lib.rt:184:13
 shared-slice-read-entry-word-8 : tie.Need-shared-slice-read-entry-word-8 Inv-loop μ-loop
 shared-slice-read-entry-word-8 c = search needs
 
--- src/lib.rt:185:21
 add-entry-word-8 : tie.Need-add-entry-word-8 Inv-loop μ-loop
 add-entry-word-8 c = search needs
 
--- src/lib.rt:185:13
 mul-entry-word-9 : tie.Need-mul-entry-word-9 Inv-loop μ-loop
 mul-entry-word-9 c = search needs
 
--- src/lib.rt:185:13
 shared-slice-read-entry-word-9 : tie.Need-shared-slice-read-entry-word-9 Inv-loop μ-loop
 shared-slice-read-entry-word-9 c = search needs
 
--- src/lib.rt:186:21
 add-entry-word-9 : tie.Need-add-entry-word-9 Inv-loop μ-loop
 add-entry-word-9 c = search needs
 
--- src/lib.rt:186:13
 mul-entry-word-10 : tie.Need-mul-entry-word-10 Inv-loop μ-loop
 mul-entry-word-10 c = search needs
 
--- src/lib.rt:186:13
 shared-slice-read-entry-word-10 : tie.Need-shared-slice-read-entry-word-10 Inv-loop μ-loop
 shared-slice-read-entry-word-10 c = search needs
 
--- src/lib.rt:187:21
 add-entry-word-10 : tie.Need-add-entry-word-10 Inv-loop μ-loop
 add-entry-word-10 c = search needs
 
--- src/lib.rt:187:13
 mul-entry-word-11 : tie.Need-mul-entry-word-11 Inv-loop μ-loop
 mul-entry-word-11 c = search needs
 
--- src/lib.rt:187:13
 shared-slice-read-entry-word-11 : tie.Need-shared-slice-read-entry-word-11 Inv-loop μ-loop
 shared-slice-read-entry-word-11 c = search needs
 
--- src/lib.rt:176:13
 entry-word-requires : tie.Need-entry-word-requires Inv-loop μ-loop
 entry-word-requires c κs = search needs
 
--- src/lib.rt:189:20
 entry-numbers-requires : tie.Need-entry-numbers-requires Inv-loop μ-loop
 entry-numbers-requires c κs = search needs
 
--- src/lib.rt:190:30
 slice-aggregate-same : tie.Need-slice-aggregate-same Inv-loop μ-loop
 slice-aggregate-same c = search needs
 
--- src/lib.rt:190:12
 same-requires : tie.Need-same-requires Inv-loop μ-loop
 same-requires c κs = search needs
 
--- src/lib.rt:191:13
 mul-entries : tie.Need-mul-entries Inv-loop μ-loop
 mul-entries c = search needs
 
--- src/lib.rt:191:13
 slice-write-entries : tie.Need-slice-write-entries Inv-loop μ-loop
 slice-write-entries c = search needs
 
--- src/lib.rt:193:13
 same-length : tie.Need-same-length Inv-loop μ-loop
 same-length c = search needs
 
--- src/lib.rt:193:13
 returns : tie.Need-returns Inv-loop μ-loop
 returns c = let after-same = c .before in
     let after-numbers = after-same .before .before in
@@ -211,19 +170,15 @@ returns c = let after-same = c .before in
     is-low (entry-unread (now (a .numbers)) (l .at) w _ _ room (after-word .entry-word .ensures) (after-numbers .entry-numbers .ensures)
     (after-same .same .ensures .1) (c .if1 .left))
 
--- src/lib.rt:195:9
 add-at : tie.Need-add-at Inv-loop μ-loop
 add-at c = search needs
 
--- src/lib.rt:196:9
 add-i : tie.Need-add-i Inv-loop μ-loop
 add-i c = search needs
 
--- src/lib.rt:175:5
 loop-less : tie.Need-loop-less Inv-loop μ-loop
 loop-less c = search needs
 
--- src/lib.rt:175:5
 loop-again : tie.Need-loop-again Inv-loop μ-loop
 loop-again c = let after-same = c .before in
     let after-numbers = after-same .before .before in
@@ -253,11 +208,9 @@ loop-again c = let after-same = c .before in
       length-set (l .entries) (l .i) w ∙ long,
     )
 
--- src/lib.rt:168:1
 same-length-2 : tie.Need-same-length-2 Inv-loop μ-loop
 same-length-2 c = c .before .loop .inv .1
 
--- src/lib.rt:168:1
 returns-2 : tie.Need-returns-2 Inv-loop μ-loop
 returns-2 c = let l = c .before .loop in
     let a = c .before .before .before .before .args in

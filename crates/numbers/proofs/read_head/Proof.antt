@@ -16,39 +16,30 @@ Inv-loop numbers pointers₀ i₀ pointers i = (i ≤ 16) × Toward (part number
 abbrev μ-loop : tie.MeasureT-loop
 μ-loop numbers pointers₀ i₀ pointers i = 16 - i
 
--- src/lib.rt:357:5
 loop-holds : tie.Need-loop-holds Inv-loop μ-loop
 loop-holds c = (omega arith, toward-start _ _)
 
--- src/lib.rt:358:31
 add-pointers : tie.Need-add-pointers Inv-loop μ-loop
 add-pointers c = search needs
 
--- src/lib.rt:358:23
 mul-pointers : tie.Need-mul-pointers Inv-loop μ-loop
 mul-pointers c = search needs
 
--- src/lib.rt:358:23
 shared-slice-read-pointers : tie.Need-shared-slice-read-pointers Inv-loop μ-loop
 shared-slice-read-pointers c = search needs
 
--- src/lib.rt:358:9
 mul-pointers-2 : tie.Need-mul-pointers-2 Inv-loop μ-loop
 mul-pointers-2 c = search needs
 
--- src/lib.rt:358:9
 slice-write-pointers : tie.Need-slice-write-pointers Inv-loop μ-loop
 slice-write-pointers c = search needs
 
--- src/lib.rt:359:9
 add-i : tie.Need-add-i Inv-loop μ-loop
 add-i c = search needs
 
--- src/lib.rt:357:5
 loop-less : tie.Need-loop-less Inv-loop μ-loop
 loop-less c = search needs
 
--- src/lib.rt:357:5
 loop-again : tie.Need-loop-again Inv-loop μ-loop
 loop-again c = let l = c .before .before .loop in
     let start = c .before .before .before .before .before in
@@ -58,89 +49,69 @@ loop-again c = let l = c .before .before .loop in
           (c .before .loop-test .taken) (l .inv .1),
     )
 
--- src/lib.rt:361:42
 shared-slice-read-registers-of : tie.Need-shared-slice-read-registers-of Inv-loop μ-loop
 shared-slice-read-registers-of c = search needs
 
--- src/lib.rt:361:54
 shared-slice-read-registers-of-2 : tie.Need-shared-slice-read-registers-of-2 Inv-loop μ-loop
 shared-slice-read-registers-of-2 c = search needs
 
--- src/lib.rt:361:66
 shared-slice-read-registers-of-3 : tie.Need-shared-slice-read-registers-of-3 Inv-loop μ-loop
 shared-slice-read-registers-of-3 c = search needs
 
--- src/lib.rt:361:78
 shared-slice-read-registers-of-4 : tie.Need-shared-slice-read-registers-of-4 Inv-loop μ-loop
 shared-slice-read-registers-of-4 c = search needs
 
--- src/lib.rt:361:90
 shared-slice-read-registers-of-5 : tie.Need-shared-slice-read-registers-of-5 Inv-loop μ-loop
 shared-slice-read-registers-of-5 c = search needs
 
--- src/lib.rt:361:9
 registers-of-requires : tie.Need-registers-of-requires Inv-loop μ-loop
 registers-of-requires c κs = search needs
 
--- src/lib.rt:362:43
 shared-slice-read-cp15-of : tie.Need-shared-slice-read-cp15-of Inv-loop μ-loop
 shared-slice-read-cp15-of c = search needs
 
--- src/lib.rt:362:9
 cp15-of-requires : tie.Need-cp15-of-requires Inv-loop μ-loop
 cp15-of-requires c κs = search needs
 
--- src/lib.rt:363:36
 shared-slice-read-counts-of : tie.Need-shared-slice-read-counts-of Inv-loop μ-loop
 shared-slice-read-counts-of c = search needs
 
--- src/lib.rt:363:49
 shared-slice-read-counts-of-2 : tie.Need-shared-slice-read-counts-of-2 Inv-loop μ-loop
 shared-slice-read-counts-of-2 c = search needs
 
--- src/lib.rt:363:62
 shared-slice-read-counts-of-3 : tie.Need-shared-slice-read-counts-of-3 Inv-loop μ-loop
 shared-slice-read-counts-of-3 c = search needs
 
--- src/lib.rt:363:75
 shared-slice-read-counts-of-4 : tie.Need-shared-slice-read-counts-of-4 Inv-loop μ-loop
 shared-slice-read-counts-of-4 c = search needs
 
--- src/lib.rt:363:88
 shared-slice-read-counts-of-5 : tie.Need-shared-slice-read-counts-of-5 Inv-loop μ-loop
 shared-slice-read-counts-of-5 c = search needs
 
--- src/lib.rt:363:9
 counts-of-requires : tie.Need-counts-of-requires Inv-loop μ-loop
 counts-of-requires c κs = search needs
 
--- src/lib.rt:366:15
 shared-slice-read-t23 : tie.Need-shared-slice-read-t23 Inv-loop μ-loop
 shared-slice-read-t23 c = let long = c .before .before .before .before .before .before .before .before .before .before .before .before .before
     .before .before .before .before .before .before .pre .0 in
     search (needs, long)
 
--- src/lib.rt:366:15
 cast-t31 : tie.Need-cast-t31 Inv-loop μ-loop
 cast-t31 c = let known = c .shared-slice-known14 .given 5 in search (needs, known)
 
--- src/lib.rt:367:15
 shared-slice-read-t17 : tie.Need-shared-slice-read-t17 Inv-loop μ-loop
 shared-slice-read-t17 c = let long = c .before .before .before .before .before .before .before .before .before .before .before .before .before
     .before .before .before .before .before .before .before .pre .0 in
     search (needs, long)
 
--- src/lib.rt:367:15
 cast-t33 : tie.Need-cast-t33 Inv-loop μ-loop
 cast-t33 c = let known = c .shared-slice-known15 .given 23 in search (needs, known)
 
--- src/lib.rt:351:1
 same-length : tie.Need-same-length Inv-loop μ-loop
 same-length c = let after-loop = c .before .before .before .before .before .before .before .before .before .before .before .before .before .before
     .before .before in
     after-loop .before .loop .inv .1 .long
 
--- src/lib.rt:351:1
 returns : tie.Need-returns Inv-loop μ-loop
 returns c = let after-counts = c .before .before in
     let after-cp15 = after-counts .before .before .before .before .before .before in

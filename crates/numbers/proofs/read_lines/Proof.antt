@@ -27,96 +27,73 @@ Inv-loop numbers from lines₀ at₀ i₀ lines at i = Reading cacheLine 5 line-
 abbrev μ-loop : tie.MeasureT-loop
 μ-loop numbers from lines₀ at₀ i₀ lines at i = length lines₀ - i
 
--- src/lib.rt:217:5
 loop-holds : tie.Need-loop-holds Inv-loop μ-loop
 loop-holds c = let a = c .before .before .args in
     (reading-start cacheLine 5 line-wide (length (now (a .lines))) (now (a .numbers)) (a .from) (linesOf (now (a .lines))), refl)
 
--- src/lib.rt:219:13
 mul-line-word : tie.Need-mul-line-word Inv-loop μ-loop
 mul-line-word c = search needs
 
--- src/lib.rt:219:13
 shared-slice-read-line-word : tie.Need-shared-slice-read-line-word Inv-loop μ-loop
 shared-slice-read-line-word c = search needs
 
--- src/lib.rt:220:21
 add-line-word : tie.Need-add-line-word Inv-loop μ-loop
 add-line-word c = search needs
 
--- src/lib.rt:220:13
 mul-line-word-2 : tie.Need-mul-line-word-2 Inv-loop μ-loop
 mul-line-word-2 c = search needs
 
--- src/lib.rt:220:13
 shared-slice-read-line-word-2 : tie.Need-shared-slice-read-line-word-2 Inv-loop μ-loop
 shared-slice-read-line-word-2 c = search needs
 
--- src/lib.rt:221:21
 add-line-word-2 : tie.Need-add-line-word-2 Inv-loop μ-loop
 add-line-word-2 c = search needs
 
--- src/lib.rt:221:13
 mul-line-word-3 : tie.Need-mul-line-word-3 Inv-loop μ-loop
 mul-line-word-3 c = search needs
 
--- src/lib.rt:221:13
 shared-slice-read-line-word-3 : tie.Need-shared-slice-read-line-word-3 Inv-loop μ-loop
 shared-slice-read-line-word-3 c = search needs
 
--- src/lib.rt:222:21
 add-line-word-3 : tie.Need-add-line-word-3 Inv-loop μ-loop
 add-line-word-3 c = search needs
 
--- src/lib.rt:222:13
 mul-line-word-4 : tie.Need-mul-line-word-4 Inv-loop μ-loop
 mul-line-word-4 c = search needs
 
--- src/lib.rt:222:13
 shared-slice-read-line-word-4 : tie.Need-shared-slice-read-line-word-4 Inv-loop μ-loop
 shared-slice-read-line-word-4 c = search needs
 
--- src/lib.rt:223:21
 add-line-word-4 : tie.Need-add-line-word-4 Inv-loop μ-loop
 add-line-word-4 c = search needs
 
--- src/lib.rt:223:13
 mul-line-word-5 : tie.Need-mul-line-word-5 Inv-loop μ-loop
 mul-line-word-5 c = search needs
 
--- src/lib.rt:223:13
 shared-slice-read-line-word-5 : tie.Need-shared-slice-read-line-word-5 Inv-loop μ-loop
 shared-slice-read-line-word-5 c = search needs
 
--- src/lib.rt:218:13
 line-word-requires : tie.Need-line-word-requires Inv-loop μ-loop
 line-word-requires c κs = search needs
 
--- src/lib.rt:225:20
 line-numbers-requires : tie.Need-line-numbers-requires Inv-loop μ-loop
 line-numbers-requires c κs = search needs
 
--- src/lib.rt:226:30
 slice-aggregate-same : tie.Need-slice-aggregate-same Inv-loop μ-loop
 slice-aggregate-same c = search needs
 
--- src/lib.rt:226:12
 same-requires : tie.Need-same-requires Inv-loop μ-loop
 same-requires c κs = search needs
 
--- src/lib.rt:227:13
 mul-lines : tie.Need-mul-lines Inv-loop μ-loop
 mul-lines c = search needs
 
--- src/lib.rt:227:13
 slice-write-lines : tie.Need-slice-write-lines Inv-loop μ-loop
 slice-write-lines c = search needs
 
--- src/lib.rt:229:13
 same-length : tie.Need-same-length Inv-loop μ-loop
 same-length c = search needs
 
--- src/lib.rt:229:13
 returns : tie.Need-returns Inv-loop μ-loop
 returns c = let after-same = c .before in
     let after-numbers = after-same .before .before in
@@ -138,19 +115,15 @@ returns c = let after-same = c .before in
     is-low (line-unread (now (a .numbers)) (l .at) w _ _ room (after-word .line-word .ensures) (after-numbers .line-numbers .ensures)
     (after-same .same .ensures .1) (c .if1 .left))
 
--- src/lib.rt:231:9
 add-at : tie.Need-add-at Inv-loop μ-loop
 add-at c = search needs
 
--- src/lib.rt:232:9
 add-i : tie.Need-add-i Inv-loop μ-loop
 add-i c = search needs
 
--- src/lib.rt:217:5
 loop-less : tie.Need-loop-less Inv-loop μ-loop
 loop-less c = search needs
 
--- src/lib.rt:217:5
 loop-again : tie.Need-loop-again Inv-loop μ-loop
 loop-again c = let after-same = c .before in
     let after-numbers = after-same .before .before in
@@ -180,11 +153,9 @@ loop-again c = let after-same = c .before in
       length-set (l .lines) (l .i) w ∙ long,
     )
 
--- src/lib.rt:210:1
 same-length-2 : tie.Need-same-length-2 Inv-loop μ-loop
 same-length-2 c = c .before .loop .inv .1
 
--- src/lib.rt:210:1
 returns-2 : tie.Need-returns-2 Inv-loop μ-loop
 returns-2 c = let l = c .before .loop in
     let a = c .before .before .before .before .args in

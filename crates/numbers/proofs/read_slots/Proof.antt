@@ -26,80 +26,61 @@ Inv-loop numbers from words₀ bytes₀ at₀ i₀ words bytes at i = Reading bu
 abbrev μ-loop : tie.MeasureT-loop
 μ-loop numbers from words₀ bytes₀ at₀ i₀ words bytes at i = length words₀ - i
 
--- src/lib.rt:266:5
 loop-holds : tie.Need-loop-holds Inv-loop μ-loop
 loop-holds c = let a = c .before .before .args in
     (reading-start bufferLine 18 slot-wide (length (now (a .words))) (now (a .numbers)) (a .from) (slotsOf (now (a .words)) (now (a .bytes))), refl, refl)
 
--- src/lib.rt:267:13
 slot-bytes-requires : tie.Need-slot-bytes-requires Inv-loop μ-loop
 slot-bytes-requires c κs = search needs
 
--- src/lib.rt:268:35
 add-slot-word : tie.Need-add-slot-word Inv-loop μ-loop
 add-slot-word c = search needs
 
--- src/lib.rt:268:27
 mul-slot-word : tie.Need-mul-slot-word Inv-loop μ-loop
 mul-slot-word c = search needs
 
--- src/lib.rt:268:27
 shared-slice-read-slot-word : tie.Need-shared-slice-read-slot-word Inv-loop μ-loop
 shared-slice-read-slot-word c = search needs
 
--- src/lib.rt:268:53
 add-slot-word-2 : tie.Need-add-slot-word-2 Inv-loop μ-loop
 add-slot-word-2 c = search needs
 
--- src/lib.rt:268:45
 mul-slot-word-2 : tie.Need-mul-slot-word-2 Inv-loop μ-loop
 mul-slot-word-2 c = search needs
 
--- src/lib.rt:268:45
 shared-slice-read-slot-word-2 : tie.Need-shared-slice-read-slot-word-2 Inv-loop μ-loop
 shared-slice-read-slot-word-2 c = search needs
 
--- src/lib.rt:268:13
 slot-word-requires : tie.Need-slot-word-requires Inv-loop μ-loop
 slot-word-requires c κs = search needs
 
--- src/lib.rt:269:20
 slot-numbers-requires : tie.Need-slot-numbers-requires Inv-loop μ-loop
 slot-numbers-requires c κs = search needs
 
--- src/lib.rt:270:30
 slice-aggregate-same : tie.Need-slice-aggregate-same Inv-loop μ-loop
 slice-aggregate-same c = search needs
 
--- src/lib.rt:270:12
 same-requires : tie.Need-same-requires Inv-loop μ-loop
 same-requires c κs = search needs
 
--- src/lib.rt:271:13
 mul-words : tie.Need-mul-words Inv-loop μ-loop
 mul-words c = search needs
 
--- src/lib.rt:271:13
 slice-write-words : tie.Need-slice-write-words Inv-loop μ-loop
 slice-write-words c = search needs
 
--- src/lib.rt:272:13
 mul-b : tie.Need-mul-b Inv-loop μ-loop
 mul-b c = search needs
 
--- src/lib.rt:272:13
 slice-set-from-b : tie.Need-slice-set-from-b Inv-loop μ-loop
 slice-set-from-b c = search needs
 
--- src/lib.rt:274:13
 same-length : tie.Need-same-length Inv-loop μ-loop
 same-length c = search needs
 
--- src/lib.rt:274:13
 same-length-2 : tie.Need-same-length-2 Inv-loop μ-loop
 same-length-2 c = search needs
 
--- src/lib.rt:274:13
 returns : tie.Need-returns Inv-loop μ-loop
 returns c = let after-same = c .before in
     let after-numbers = after-same .before .before in
@@ -123,19 +104,15 @@ returns c = let after-same = c .before in
     (slot-unread (now (a .numbers)) (l .at) w b _ _ room (after-word .slot-word .ensures) (after-bytes .slot-bytes .ensures)
     (after-numbers .slot-numbers .ensures) (after-same .same .ensures .1) (c .if1 .left))
 
--- src/lib.rt:276:9
 add-at : tie.Need-add-at Inv-loop μ-loop
 add-at c = search needs
 
--- src/lib.rt:277:9
 add-i : tie.Need-add-i Inv-loop μ-loop
 add-i c = search needs
 
--- src/lib.rt:266:5
 loop-less : tie.Need-loop-less Inv-loop μ-loop
 loop-less c = search needs
 
--- src/lib.rt:266:5
 loop-again : tie.Need-loop-again Inv-loop μ-loop
 loop-again c = let after-same = c .before in
     let after-numbers = after-same .before .before in
@@ -171,15 +148,12 @@ loop-again c = let after-same = c .before in
       length-set (l .bytes) (l .i) b ∙ l .inv .2,
     )
 
--- src/lib.rt:259:1
 same-length-3 : tie.Need-same-length-3 Inv-loop μ-loop
 same-length-3 c = search needs
 
--- src/lib.rt:259:1
 same-length-4 : tie.Need-same-length-4 Inv-loop μ-loop
 same-length-4 c = search needs
 
--- src/lib.rt:259:1
 returns-2 : tie.Need-returns-2 Inv-loop μ-loop
 returns-2 c = let l = c .before .loop in
     let start = c .before .before .before .before in

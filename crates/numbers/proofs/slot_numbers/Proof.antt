@@ -17,58 +17,45 @@ Inv-loop w bytes out₀ i₀ out i = (i ≤ 16) × Toward (cells 16 bytes 0 ++ 0
 abbrev μ-loop : tie.MeasureT-loop
 μ-loop w bytes out₀ i₀ out i = 16 - i
 
--- src/lib.rt:84:5
 loop-holds : tie.Need-loop-holds Inv-loop μ-loop
 loop-holds c = (omega arith, toward-start _ _)
 
--- src/lib.rt:85:18
 array-read-out : tie.Need-array-read-out Inv-loop μ-loop
 array-read-out c = search needs
 
--- src/lib.rt:85:18
 cast-out : tie.Need-cast-out Inv-loop μ-loop
 cast-out c = search needs
 
--- src/lib.rt:85:9
 mul-out : tie.Need-mul-out Inv-loop μ-loop
 mul-out c = search needs
 
--- src/lib.rt:85:9
 array-write-out : tie.Need-array-write-out Inv-loop μ-loop
 array-write-out c = search needs
 
--- src/lib.rt:86:9
 add-i : tie.Need-add-i Inv-loop μ-loop
 add-i c = search needs
 
--- src/lib.rt:84:5
 loop-less : tie.Need-loop-less Inv-loop μ-loop
 loop-less c = search needs
 
--- src/lib.rt:84:5
 loop-again : tie.Need-loop-again Inv-loop μ-loop
 loop-again c = let l = c .before .loop in
     let a = c .before .before .args in
     let n : length (a .t2) ≡ 16 = search needs in
     (omega arith, slot-step (a .t2) (l .out) (l .i) n (search needs) (l .inv .1))
 
--- src/lib.rt:88:15
 cast-out-2 : tie.Need-cast-out-2 Inv-loop μ-loop
 cast-out-2 c = search needs
 
--- src/lib.rt:88:5
 array-write-out-2 : tie.Need-array-write-out-2 Inv-loop μ-loop
 array-write-out-2 c = search needs
 
--- src/lib.rt:89:15
 cast-out-3 : tie.Need-cast-out-3 Inv-loop μ-loop
 cast-out-3 c = search needs
 
--- src/lib.rt:89:5
 array-write-out-3 : tie.Need-array-write-out-3 Inv-loop μ-loop
 array-write-out-3 c = search needs
 
--- src/lib.rt:79:1
 returns : tie.Need-returns Inv-loop μ-loop
 returns c = let l = c .before .loop in
     let a = c .before .before .args in

@@ -18,7 +18,7 @@ passed-requires c κs =
     let reached = arm .before .before in
     let lent = reached .before in
     let address = lent .before in
-    let start = address .before .before in
+    let start = address .before .before .before in
     (start .pre .1, record { width = start .pre .2; place = rw (arm .c .given .1) at (reached .reach .ensures .ranged) })
 
 enum-known-c-2 : tie.Need-enum-known-c-2
@@ -40,8 +40,8 @@ returns c =
     let reached = arm .before .before in
     let lent = reached .before in
     let address = lent .before in
-    let a = address .before .before .args in
-    let p = plainOf (now (a .memory)) (a .s) in
+    let a = address .before .before .before .args in
+    let p = plainOf (now (a .memory)) (now (a .bad)) (a .s) in
     let e = access-by p (a .a) _ (sym (reached .reach .ensures .same) ∙ arm .c .given .1) ∙ at-passed p (a .a) _ in
     record { same = done .passed .ensures .same ∙ sym e; kept = done .passed .ensures .kept }
 
@@ -54,11 +54,11 @@ returns-2 c =
     let reached = arm .before .before in
     let lent = reached .before in
     let address = lent .before in
-    let start = address .before .before in
+    let start = address .before .before .before in
     let a = start .args in
-    let p = plainOf (now (a .memory)) (a .s) in
+    let p = plainOf (now (a .memory)) (now (a .bad)) (a .s) in
     let e = access-by p (a .a) _ (sym (reached .reach .ensures .same) ∙ arm .c2 .given .1) ∙ at-denied p (a .a) _ _ in
-    fault-steps p (start .pre .1) _ _ _ _ _ (a .a .address) (c .faulted .ensures (now (a .memory))) refl e
+    fault-steps p (start .pre .1) _ _ _ _ _ (a .a .address) (c .faulted .ensures (now (a .memory)) (now (a .bad))) refl e
 
 pub access-spec : {M : Type 1} → statement M
 access-spec =

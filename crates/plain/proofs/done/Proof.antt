@@ -13,7 +13,7 @@ enum-known-c c = search needs
 access-requires : tie.Need-access-requires
 access-requires c κs =
     let arm = c .before .before in
-    let start = arm .before .before .before in
+    let start = arm .before .before .before .before in
     (start .pre .0, start .pre .1, access-accepted (arm .c .given .0 .0) (rw (arm .c .given .1) at (start .pre .2)) .0)
 
 enum-known-c-2 : tie.Need-enum-known-c-2
@@ -41,16 +41,17 @@ returns-2 : tie.Need-returns-2
 unfolding plainRead
 returns-2 c =
     let arm = c .before .before in
-    let start = arm .before .before .before in
-    rw (arm .c2 .given .1) (steps-to _ _ (c .read .ensures (now (start .args .memory))) (start .pre .1))
+    let start = arm .before .before .before .before in
+    rw (arm .c2 .given .1) (steps-to _ _ (c .read .ensures (now (start .args .memory)) (now (start .args .bad))) (start .pre .1))
 
 returns-3 : tie.Need-returns-3
 returns-3 c =
     let arm = c .before .before in
-    let start = arm .before .before .before in
+    let start = arm .before .before .before .before in
     let a = start .args in
     let m = now (a .memory) in
-    rw (arm .c3 .given .1) (steps-to _ _ (c .write .ensures m) (keep-written (plainOf m (a .s)) (start .pre .1) _ _))
+    let bad = now (a .bad) in
+    rw (arm .c3 .given .1) (steps-to _ _ (c .write .ensures m bad) (keep-written (plainOf m bad (a .s)) (start .pre .1) _ _))
 
 pub done-spec : {M : Type 1} → statement M
 done-spec =

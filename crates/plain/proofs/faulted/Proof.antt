@@ -8,7 +8,7 @@ fault-set-requires c κs = search needs
 
 returns : tie.Need-returns
 unfolding plainFaulted
-returns c = λ m. rw (c .fault-set .ensures)
+returns c = λ m bad. rw (c .fault-set .ensures)
 
 pub faulted-spec : {M : Type 1} → statement M
 faulted-spec = tie.close (tie.spec fault-set-requires returns)

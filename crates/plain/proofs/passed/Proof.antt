@@ -29,8 +29,8 @@ same-length c = search needs
 returns : tie.Need-returns
 returns c =
     let arm = c .before .before in
-    let a = arm .before .before .args in
-    let e = passed-load (plainOf (now (a .memory)) (a .s)) (a .a) (a .p) (a .a .kind) (loads (a .a .kind) (arm .match .keys1)) in
+    let a = arm .before .before .before .args in
+    let e = passed-load (plainOf (now (a .memory)) (now (a .bad)) (a .s)) (a .a) (a .p) (a .a .kind) (loads (a .a .kind) (arm .match .keys1)) in
     record { same = c .load .ensures .same ∙ sym e; kept = c .load .ensures .kept }
 
 same-length-2 : tie.Need-same-length-2
@@ -40,8 +40,8 @@ returns-2 : tie.Need-returns-2
 returns-2 c =
     let stored = c .before .before in
     let arm = stored .before .before .before in
-    let a = arm .before .before .before .args in
-    let e = ap (λ (k : Kind). plainPassed (plainOf (now (a .memory)) (a .s)) (a .a) (a .p) k) (arm .k .given .1) in
+    let a = arm .before .before .before .before .args in
+    let e = ap (λ (k : Kind). plainPassed (plainOf (now (a .memory)) (now (a .bad)) (a .s)) (a .a) (a .p) k) (arm .k .given .1) in
     record { same = stored .store .ensures .same ∙ sym e; kept = stored .store .ensures .kept }
 
 same-length-3 : tie.Need-same-length-3
@@ -51,8 +51,8 @@ returns-3 : tie.Need-returns-3
 returns-3 c =
     let swapped = c .before .before in
     let arm = swapped .before .before .before in
-    let a = arm .before .before .before .args in
-    let e = ap (λ (k : Kind). plainPassed (plainOf (now (a .memory)) (a .s)) (a .a) (a .p) k) (arm .k2 .given .1) in
+    let a = arm .before .before .before .before .args in
+    let e = ap (λ (k : Kind). plainPassed (plainOf (now (a .memory)) (now (a .bad)) (a .s)) (a .a) (a .p) k) (arm .k2 .given .1) in
     record { same = swapped .swap .ensures .same ∙ sym e; kept = swapped .swap .ensures .kept }
 
 pub passed-spec : {M : Type 1} → statement M

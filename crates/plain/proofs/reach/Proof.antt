@@ -16,8 +16,8 @@ faults-alignment-requires c κs = search needs
 returns : tie.Need-returns
 returns c =
     let test = c .before in
-    let a = test .before .before .before .args in
-    let p = plainOf (now (a .memory)) (a .s) in
+    let a = test .before .before .before .before .args in
+    let p = plainOf (now (a .memory)) (now (a .bad)) (a .s) in
     record { same = sym (reach-misaligned p (a .a) (sym (test .faults-alignment .ensures) ∙ c .if1 .taken)); ranged = search needs }
 
 cleared-requires : tie.Need-cleared-requires
@@ -35,11 +35,12 @@ returns-2 c =
     let cleared = walked .before in
     let branch = cleared .before in
     let test = branch .before in
-    let a = test .before .before .before .args in
+    let a = test .before .before .before .before .args in
     let m = now (a .memory) in
+    let bad = now (a .bad) in
     let r = a .s .registers in
-    let e = reach-aligned (plainOf m (a .s)) (a .a) (sym (test .faults-alignment .ensures) ∙ branch .if1 .left) in
-    let t = walked .walked-only .ensures .same ∙ ap (λ (va : VirtualAddress). walkedOnly r (physical m) va) (cleared .cleared .ensures) in
+    let e = reach-aligned (plainOf m bad (a .s)) (a .a) (sym (test .faults-alignment .ensures) ∙ branch .if1 .left) in
+    let t = walked .walked-only .ensures .same ∙ ap (λ (va : VirtualAddress). walkedOnly r (physical m bad) va) (cleared .cleared .ensures) in
     record { same = c .check .ensures .same ∙ ap (λ (x : Translation). checked r (a .a) x) t ∙ sym e; ranged = c .check .ensures .ranged }
 
 pub reach-spec : {M : Type 1} → statement M

@@ -8,7 +8,7 @@ read-requires c κs = search needs
 
 returns : tie.Need-returns
 unfolding plainRead
-returns c = λ m. rw (c .read .ensures)
+returns c = λ m bad. rw (c .read .ensures)
 
 pub read-spec : {M : Type 1} → statement M
 read-spec = tie.close (tie.spec read-requires returns)

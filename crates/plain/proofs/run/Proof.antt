@@ -12,6 +12,9 @@ use Rattle.plain.proofs.run.Tie as tie
 length-fits-requires : tie.Need-length-fits-requires
 length-fits-requires c κs = search needs
 
+map-fits-requires : tie.Need-map-fits-requires
+map-fits-requires c κs = search needs
+
 calls-held-requires : tie.Need-calls-held-requires
 calls-held-requires c κs = search needs
 
@@ -22,13 +25,15 @@ run-calls-requires : tie.Need-run-calls-requires
 run-calls-requires c κs =
     let table = c .before .before .before in
     let held = table .before in
-    let test = held .before .before in
+    let tested = held .before .before in
+    let test = tested .before in
     let fits = test .before in
     let answers = fits .before in
     let calls = answers .before in
-    let start = calls .before .before in
+    let map = calls .before in
+    let start = map .before .before in
     let a = start .args in
-    (table .table .ensures, held-by (now (a .calls)) (now (a .answers)) _ (held .calls-held .ensures))
+    (table .table .ensures, held-by (now (a .calls)) (now (a .answers)) _ (held .calls-held .ensures), tested .map-fits .ensures)
 
 same-length : tie.Need-same-length
 same-length c = search needs
@@ -43,14 +48,17 @@ returns c =
     let lent = ran .before .before in
     let table = lent .before .before in
     let held = table .before in
-    let test = held .before .before in
+    let tested = held .before .before in
+    let test = tested .before in
     let fits = test .before in
     let answers = fits .before in
     let calls = answers .before in
-    let start = calls .before .before in
+    let map = calls .before in
+    let start = map .before .before in
     let a = start .args in
     let h = sym (fits .length-fits .ensures) ∙ test .if1 .taken in
-    ran .run-calls .ensures ∙ sym (run-by (now (a .memory)) (now (a .calls)) (now (a .answers)) (held .calls-held .result) h (held .calls-held .ensures))
+    ran .run-calls .ensures ∙ sym
+    (run-by (now (a .memory)) (now (a .bad)) (now (a .calls)) (now (a .answers)) (held .calls-held .result) h (held .calls-held .ensures))
 
 zero-state-requires : tie.Need-zero-state-requires
 zero-state-requires c κs = search needs
@@ -61,17 +69,20 @@ returns-2 c =
     let fits = test .before in
     let answers = fits .before in
     let calls = answers .before in
-    let start = calls .before .before in
+    let map = calls .before in
+    let start = map .before .before in
     let a = start .args in
     let m = now (a .memory) in
-    ap (λ (p : Plain). withRefusal (leaves p (now (a .answers)) 0) 1) (c .zero-state .ensures m)
-    ∙ sym (run-refused m (now (a .calls)) (now (a .answers)) (sym (fits .length-fits .ensures) ∙ test .if1 .left))
+    let bad = now (a .bad) in
+    ap (λ (p : Plain). withRefusal (leaves p (now (a .answers)) 0) 1) (c .zero-state .ensures m bad)
+    ∙ sym (run-refused m bad (now (a .calls)) (now (a .answers)) (sym (fits .length-fits .ensures) ∙ test .if1 .left))
 
 pub run-spec : {M : Type 1} → statement M
 run-spec =
     tie.close
     (tie.spec
     length-fits-requires
+    map-fits-requires
     calls-held-requires
     table-requires
     run-calls-requires

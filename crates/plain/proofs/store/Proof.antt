@@ -1,5 +1,6 @@
 use Rattle.values.specs.declared.Answer.the-variants.{Value}
 use Rattle.bus.specs.Physical.{physical, aborts}
+use Rattle.bus.proofs.Laws.{answers}
 use Rattle.translation.specs.Faults.{buffers}
 use Rattle.plain.specs.Plain.{plainStepped}
 use Rattle.plain.specs.Code.{plainOf}
@@ -31,12 +32,13 @@ returns c =
     let r = lent .before in
     let address = r .before in
     let pa = address .before in
-    let start = pa .before .before in
+    let start = pa .before .before .before in
     let a = start .args in
     let m = now (a .memory) in
-    let h : aborts (physical m) (a .p .address) ≡ true = sym (bus .aborts .ensures) ∙ first .if1 .taken in
+    let bad = now (a .bad) in
+    let h : aborts (physical m bad) (a .p .address) ≡ true = sym (bus .aborts .ensures) ∙ first .if1 .taken in
     let f : buffers (a .s .registers) (a .p) ≡ true = sym (test .buffers .ensures) ∙ c .if2 .taken in
-    record { same = sym (store-drop (plainOf m (a .s)) (a .a) (a .p) (a .v) h f); kept = start .pre .0 }
+    record { same = sym (store-drop (plainOf m bad (a .s)) (a .a) (a .p) (a .v) h f); kept = start .pre .0 }
 
 other-status-requires : tie.Need-other-status-requires
 other-status-requires c κs = search needs
@@ -58,13 +60,14 @@ returns-2 c =
     let r = lent .before in
     let address = r .before in
     let pa = address .before in
-    let start = pa .before .before in
+    let start = pa .before .before .before in
     let a = start .args in
     let m = now (a .memory) in
-    let p = plainOf m (a .s) in
-    let h : aborts (physical m) (a .p .address) ≡ true = sym (bus .aborts .ensures) ∙ first .if1 .taken in
+    let bad = now (a .bad) in
+    let p = plainOf m bad (a .s) in
+    let h : aborts (physical m bad) (a .p .address) ≡ true = sym (bus .aborts .ensures) ∙ first .if1 .taken in
     let f : buffers (a .s .registers) (a .p) ≡ false = sym (test .buffers .ensures) ∙ second .if2 .left in
-    fault-steps p (start .pre .0) _ _ _ _ (a .p .domain) (a .a .address) (c .faulted .ensures m) (status .other-status .ensures)
+    fault-steps p (start .pre .0) _ _ _ _ (a .p .domain) (a .a .address) (c .faulted .ensures m bad) (status .other-status .ensures)
     (store-other p (a .a) (a .p) (a .v) h f)
 
 cast-store : tie.Need-cast-store
@@ -78,11 +81,13 @@ store-requires c κs =
     let r = lent .before in
     let address = r .before in
     let pa = address .before in
-    let start = pa .before .before in
+    let start = pa .before .before .before in
     let a = start .args in
     let m = now (a .memory) in
+    let bad = now (a .bad) in
     let k = start .pre .1 in
-    (k .width, inside-fits m (a .a) (a .p) (record { placed = k; answers = sym (bus .aborts .ensures) ∙ branch .if1 .left }))
+    let h = answers (physical m bad) (a .p .address) (sym (bus .aborts .ensures) ∙ branch .if1 .left) in
+    (k .width, inside-fits m (a .a) (a .p) (record { placed = k; inside = h }))
 
 same-length-3 : tie.Need-same-length-3
 same-length-3 c = search needs
@@ -96,13 +101,14 @@ returns-3 c =
     let r = lent .before in
     let address = r .before in
     let pa = address .before in
-    let start = pa .before .before in
+    let start = pa .before .before .before in
     let a = start .args in
     let m = now (a .memory) in
-    let h : aborts (physical m) (a .p .address) ≡ false = sym (bus .aborts .ensures) ∙ branch .if1 .left in
-    let e = store-in (plainOf m (a .s)) (a .a) (a .p) (a .v) h in
+    let bad = now (a .bad) in
+    let h : aborts (physical m bad) (a .p .address) ≡ false = sym (bus .aborts .ensures) ∙ branch .if1 .left in
+    let e = store-in (plainOf m bad (a .s)) (a .a) (a .p) (a .v) h in
     record {
-      same = ap (λ (l : List ℕ). plainStepped (plainOf l (a .s)) (Value 0)) (stored .store .ensures) ∙ sym e;
+      same = ap (λ (l : List ℕ). plainStepped (plainOf l bad (a .s)) (Value 0)) (stored .store .ensures) ∙ sym e;
       kept = start .pre .0;
     }
 

@@ -1,4 +1,6 @@
+use Rattle.values.specs.declared.Answer.{Answer}
 use Rattle.bus.specs.Physical.{physical, aborts}
+use Rattle.bus.proofs.Laws.{answers}
 use Rattle.plain.specs.Plain.{PlainStepped, plainStepped, plainStore}
 use Rattle.plain.specs.Code.{plainOf}
 use Rattle.plain.proofs.Laws.{swap-in, swap-other, fault-steps}
@@ -26,16 +28,23 @@ returns c =
     let status = c .before in
     let then1 = status .before .before in
     let bus = then1 .before in
-    let start = bus .before .before .before in
+    let start = bus .before .before .before .before in
     let a = start .args in
     let m = now (a .memory) in
-    let p = plainOf m (a .s) in
-    let h : aborts (physical m) (a .p .address) ≡ true = sym (bus .aborts .ensures) ∙ then1 .if1 .taken in
-    fault-steps p (start .pre .0) _ _ _ _ (a .p .domain) (a .a .address) (c .faulted .ensures m) (status .other-status .ensures)
+    let bad = now (a .bad) in
+    let p = plainOf m bad (a .s) in
+    let h : aborts (physical m bad) (a .p .address) ≡ true = sym (bus .aborts .ensures) ∙ then1 .if1 .taken in
+    fault-steps p (start .pre .0) _ _ _ _ (a .p .domain) (a .a .address) (c .faulted .ensures m bad) (status .other-status .ensures)
     (swap-other p (a .a) (a .p) (a .v) h)
 
-load-requires : tie.Need-load-requires
-load-requires c κs = search needs
+loaded-requires : tie.Need-loaded-requires
+loaded-requires c κs =
+    let else1 = c .before in
+    let bus = else1 .before in
+    let start = bus .before .before .before .before in
+    let a = start .args in
+    let h = answers (physical (now (a .memory)) (now (a .bad))) (a .p .address) (sym (bus .aborts .ensures) ∙ else1 .if1 .left) in
+    record { placed = start .pre .1; inside = h }
 
 store-requires : tie.Need-store-requires
 store-requires c κs = search needs
@@ -49,12 +58,12 @@ returns-2 c =
     let read = written .before .before in
     let else1 = read .before .before in
     let bus = else1 .before in
-    let start = bus .before .before .before in
+    let start = bus .before .before .before .before in
     let a = start .args in
-    let p = plainOf (now (a .memory)) (a .s) in
+    let p = plainOf (now (a .memory)) (now (a .bad)) (a .s) in
     record {
-      same = ap (λ (x : PlainStepped). plainStepped (x .plain) (read .load .result .answer)) (written .store .ensures .same)
-          ∙ ap (λ (x : PlainStepped). plainStepped (plainStore p (a .a) (a .v) (a .p) .plain) (x .answer)) (read .load .ensures .same)
+      same = ap (λ (x : PlainStepped). plainStepped (x .plain) (read .loaded .result)) (written .store .ensures .same)
+          ∙ ap (λ (x : Answer). plainStepped (plainStore p (a .a) (a .v) (a .p) .plain) x) (read .loaded .ensures)
           ∙ sym (swap-in p (a .a) (a .p) (a .v) (sym (bus .aborts .ensures) ∙ else1 .if1 .left));
       kept = written .store .ensures .kept;
     }
@@ -68,7 +77,7 @@ swap-spec =
     faulted-requires
     same-length
     returns
-    load-requires
+    loaded-requires
     store-requires
     same-length-2
     returns-2)

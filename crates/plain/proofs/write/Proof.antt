@@ -8,7 +8,7 @@ written-requires c κs = search needs
 
 returns : tie.Need-returns
 unfolding plainWrite
-returns c = λ m. rw (c .written .ensures)
+returns c = λ m bad. rw (c .written .ensures)
 
 pub write-spec : {M : Type 1} → statement M
 write-spec = tie.close (tie.spec written-requires returns)

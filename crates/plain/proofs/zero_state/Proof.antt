@@ -8,7 +8,7 @@ zero-registers-requires c κs = search needs
 
 returns : tie.Need-returns
 unfolding plainStart
-returns c = λ m. rw (c .zero-registers .ensures)
+returns c = λ m bad. rw (c .zero-registers .ensures)
 
 pub zero-state-spec : {M : Type 1} → statement M
 zero-state-spec = tie.close (tie.spec zero-registers-requires returns)

@@ -16,7 +16,7 @@ faults-alignment-requires c κs = search needs
 
 returns : tie.Need-returns
 returns c =
-    let after-faults-alignment = c .before in let start = after-faults-alignment .before .before .before in
+    let after-faults-alignment = c .before in let start = after-faults-alignment .before .before .before .before in
     let a = start .args in
     let e : alignmentFaults (a .r) (a .a) ≡ true = sym (after-faults-alignment .faults-alignment .ensures) ∙ c .if1 .taken in
     record { same = sym (decided-unaligned (a .r) (a .a) _ e); ranged = tt; checked-ranged = omega arith }
@@ -33,10 +33,11 @@ check-requires c κs = search needs
 returns-2 : tie.Need-returns-2
 returns-2 c =
     let after-translate = c .before in let after-cleared = after-translate .before in let else1 = after-cleared .before in
-    let after-faults-alignment = else1 .before in let start = after-faults-alignment .before .before .before in
+    let after-faults-alignment = else1 .before in let start = after-faults-alignment .before .before .before .before in
     let a = start .args in
     let e : alignmentFaults (a .r) (a .a) ≡ false = sym (after-faults-alignment .faults-alignment .ensures) ∙ else1 .if1 .left in
-    let t : after-translate .translate .result ≡ translation (entriesOf (now (a .entries))) (a .r) (physical (now (a .memory))) (cleared (a .a)) =
+    let t : after-translate .translate .result ≡ translation (entriesOf (now (a .entries))) (a .r) (physical (now (a .memory)) (now (a .bad)))
+    (cleared (a .a)) =
     rw (after-cleared .cleared .ensures) at (after-translate .translate .ensures .same)
     in
     record {

@@ -22,14 +22,14 @@ enum-known-found c = search needs
 mul-entry-of : tie.Need-mul-entry-of
 mul-entry-of c = let after-found = c .before in
     let after-lookup = after-found .before .before in
-    let start = after-lookup .before .before .before .before .before in
+    let start = after-lookup .before .before .before .before .before .before in
     let h = lookup-low (now (start .args .entries)) (start .args .va) _ (start .pre .0)
     (sym (after-lookup .lookup .ensures) ∙ after-found .found .given .1) in omega (arith, h)
 
 shared-slice-read-entry-of : tie.Need-shared-slice-read-entry-of
 shared-slice-read-entry-of c = let after-found = c .before .before in
     let after-lookup = after-found .before .before in
-    let start = after-lookup .before .before .before .before .before in
+    let start = after-lookup .before .before .before .before .before .before in
     let h = lookup-low (now (start .args .entries)) (start .args .va) _ (start .pre .0)
     (sym (after-lookup .lookup .ensures) ∙ after-found .found .given .1) in omega (arith, h, start .pre .0)
 
@@ -50,13 +50,14 @@ returns c = let after-found = c .before .before .before in
     let after-lookup = after-found .before .before in
     let then1 = after-lookup .before in
     let after-mmu = then1 .before in
-    let start = after-mmu .before .before .before in
+    let start = after-mmu .before .before .before .before in
     let a = start .args in
     let ws = now (a .entries) in
     let e = sym (after-lookup .lookup .ensures) ∙ after-found .found .given .1 in
     let h = lookup-low ws (a .va) _ (start .pre .0) e in
     record {
-      same = held ws (a .va) (a .r) (physical (now (a .memory))) _ _ (sym (after-mmu .mmu .ensures) ∙ then1 .if1 .taken) (sym e) (c .entry-of .ensures);
+      same = held ws (a .va) (a .r) (physical (now (a .memory)) (now (a .bad))) _ _ (sym (after-mmu .mmu .ensures) ∙ then1 .if1 .taken) (sym e)
+          (c .entry-of .ensures);
       ranged = subst InRange (sym (c .entry-of .ensures)) (start .pre .1 _ h);
     }
 
@@ -66,10 +67,10 @@ returns-2 c = let after-walk = c .before in
     let after-lookup = after-enum-told .before .before in
     let then1 = after-lookup .before in
     let after-mmu = then1 .before in
-    let start = after-mmu .before .before .before in
+    let start = after-mmu .before .before .before .before in
     let a = start .args in
     record {
-      same = walked (now (a .entries)) (a .va) (a .r) (physical (now (a .memory))) _ (sym (after-mmu .mmu .ensures) ∙ then1 .if1 .taken)
+      same = walked (now (a .entries)) (a .va) (a .r) (physical (now (a .memory)) (now (a .bad))) _ (sym (after-mmu .mmu .ensures) ∙ then1 .if1 .taken)
           (sym (after-enum-told .enum-told .given .1) ∙ after-lookup .lookup .ensures)
           (c .of-walk .ensures .same ∙ ap ofWalk (after-walk .walk .ensures .same));
       ranged = c .of-walk .ensures .ranged;
@@ -77,10 +78,10 @@ returns-2 c = let after-walk = c .before in
 
 returns-3 : tie.Need-returns-3
 returns-3 c = let after-mmu = c .before in
-    let start = after-mmu .before .before .before in
+    let start = after-mmu .before .before .before .before in
     let a = start .args in
     record {
-      same = not-mapped (now (a .entries)) (a .va) (a .r) (physical (now (a .memory))) (sym (after-mmu .mmu .ensures) ∙ c .if1 .left);
+      same = not-mapped (now (a .entries)) (a .va) (a .r) (physical (now (a .memory)) (now (a .bad))) (sym (after-mmu .mmu .ensures) ∙ c .if1 .left);
       ranged = _;
     }
 

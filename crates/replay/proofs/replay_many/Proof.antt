@@ -20,7 +20,7 @@ replay-lines-requires c κs = search needs
 
 settled-requires : tie.Need-settled-requires
 settled-requires c κs = let start = c .before .before .before .before .before .before .before .before .before .before .before .before .before .before
-    .before .before .before in
+    .before .before .before .before in
     let a = start .args in
     let b = c .before .before .before .before .before .before .replay-lines .ensures in
     let n = c .before .before .before .before .before .before .before .before .before .before .least .result in
@@ -49,16 +49,18 @@ same-length-3 : tie.Need-same-length-3
 same-length-3 c = search needs
 
 returns : tie.Need-returns
-returns c = let start = c .before .before .before .before .before .before .before .before .before .before .before .before .before .before .before
+returns c = let start = c .before .before .before .before .before .before .before .before .before .before .before .before .before .before .before .before
     .before .before .before .before in
     let a = start .args in
     let b = c .before .before .before .before .before .before .before .before .replay-lines in
     let k = c .before .before .before .before .before .before .before .before .before .before .before .before .least in
-    let h = heldOf (now (a .memory)) (now (a .store)) (a .replay) in
+    let h = heldOf (now (a .memory)) (now (a .bad)) (now (a .store)) (a .replay) in
     let e = k .ensures in
     let room = start .pre .2 in
-    many-is (a .ends) (k .result) h (now (a .text)) (now (a .out)) (b .last .1 .1 .0) (b .last .1 .1 .1 .0) _ (b .result) (b .ensures) (start .pre .1)
-    (omega arith) _ (c .before .settled .ensures (b .last .1 .1 .0) (b .last .1 .1 .1 .0)) _ (c .taken-by .ensures) ∙ ap (λ (n : ℕ). replayed (a
+    many-is (a .ends) (k .result) h (now (a .text)) (now (a .out)) (b .last .1 .1 .0) (now (a .bad)) (b .last .1 .1 .1 .1 .0) _ (b .result) (b .ensures)
+    (start .pre .1)
+    (omega arith) _ (c .before .settled .ensures (b .last .1 .1 .0) (now (a .bad)) (b .last .1 .1 .1 .1 .0)) _ (c .taken-by .ensures)
+    ∙ ap (λ (n : ℕ). replayed (a
     .ends) n h (now (a .text)) (now (a .out))) e
 
 pub replay-many-spec : {M : Type 1} → statement M

@@ -15,10 +15,13 @@ use Rattle.replay.proofs.replay_one.Statement.{statement}
 use Rattle.replay.proofs.replay_one.Tie as tie
 
 slice-aggregate-join : tie.Need-slice-aggregate-join
-slice-aggregate-join c = search needs
+slice-aggregate-join c = let start = c .before .before .before .before .before .before .before .before .before in
+    let r = start .args .replay in
+    let long : length (r .begun) ≡ 64 = sym (length-map (r .begun) (λ (b : ℕ). b)) ∙ start .good .0 .1 .1 .1 .1 .1 .1 .1 .1 .0 .1 .0 .1 in
+    sym long
 
 join-requires : tie.Need-join-requires
-join-requires c κs = let start = c .before .before .before .before .before .before .before .before in
+join-requires c κs = let start = c .before .before .before .before .before .before .before .before .before in
     let a = start .args in
     let r = a .replay in
     let k = kept-means (r .lines) (r .held) (r .waiting) (r .begun) (start .pre) in
@@ -32,7 +35,7 @@ array-share-prefix-line : tie.Need-array-share-prefix-line
 array-share-prefix-line c = search needs
 
 slice-aggregate-whole : tie.Need-slice-aggregate-whole
-slice-aggregate-whole c = let start = c .before .before .before .before .before .before .before .before .before .before .before in
+slice-aggregate-whole c = let start = c .before .before .before .before .before .before .before .before .before .before .before .before in
     let a = start .args in
     let r = a .replay in
     let k = kept-means (r .lines) (r .held) (r .waiting) (r .begun) (start .pre) in
@@ -49,7 +52,7 @@ slice-aggregate-replay-lines : tie.Need-slice-aggregate-replay-lines
 slice-aggregate-replay-lines c = search needs
 
 replay-lines-requires : tie.Need-replay-lines-requires
-replay-lines-requires c κs = let start = c .before .before .before .before .before .before .before .before .before .before .before .before .before
+replay-lines-requires c κs = let start = c .before .before .before .before .before .before .before .before .before .before .before .before .before .before
     .before .before in
     let a = start .args in
     let r = a .replay in
@@ -59,7 +62,7 @@ replay-lines-requires c κs = let start = c .before .before .before .before .bef
 
 settled-requires : tie.Need-settled-requires
 settled-requires c κs = let start = c .before .before .before .before .before .before .before .before .before .before .before .before .before .before
-    .before .before .before .before .before .before .before in
+    .before .before .before .before .before .before .before .before in
     let a = start .args in
     let r = a .replay in
     let k = kept-means (r .lines) (r .held) (r .waiting) (r .begun) (start .pre) in
@@ -100,7 +103,7 @@ same-length-3 c = search needs
 returns : tie.Need-returns
 returns c = let after-taken-by = c .before .before .before in
     let after-is-last = after-taken-by .before .before .before .before .before .before .before .before .before .before .before .before .before in
-    let start = c .before .before .before .before .before .before .before .before .before .before .before .before .before .before .before .before
+    let start = c .before .before .before .before .before .before .before .before .before .before .before .before .before .before .before .before .before
     .before .before .before .before .before .before .before .before .before .before .before .before in
     let a = start .args in
     let r = a .replay in
@@ -111,9 +114,10 @@ returns c = let after-taken-by = c .before .before .before in
     .before .before .join in
     let p = c .before .before .put-out in
     let s = c .before .before .before .before .before .before .settled in
-    p .ensures (b .last .1 .1 .0) (b .last .1 .1 .1 .0) ∙ one-is (a .ends) (heldOf (now (a .memory)) (now (a .store)) r) k long (now (a .text)) (now
-    (a .out)) _ _ (b .last .1 .1 .0) (b .last .1 .1 .1 .0) _ (j .result) _ (b .result) (j .ensures .0) (j .ensures .1) (after-is-last .is-last
-    .ensures) (b .ensures) _ (s .ensures (b .last .1 .1 .0) (b .last .1 .1 .1 .0)) _ (after-taken-by .taken-by .ensures)
+    p .ensures (b .last .1 .1 .0) (now (a .bad)) (b .last .1 .1 .1 .1 .0)
+    ∙ one-is (a .ends) (heldOf (now (a .memory)) (now (a .bad)) (now (a .store)) r) k long (now (a .text)) (now
+    (a .out)) _ _ (b .last .1 .1 .0) (now (a .bad)) (b .last .1 .1 .1 .1 .0) _ (j .result) _ (b .result) (j .ensures .0) (j .ensures .1) (after-is-last .is-last
+    .ensures) (b .ensures) _ (s .ensures (b .last .1 .1 .0) (now (a .bad)) (b .last .1 .1 .1 .1 .0)) _ (after-taken-by .taken-by .ensures)
 
 pub replay-one-spec : {M : Type 1} → statement M
 replay-one-spec =

@@ -15,20 +15,20 @@ is-kept-requires : tie.Need-is-kept-requires
 is-kept-requires c κs = search needs
 
 slice-aggregate-put-out : tie.Need-slice-aggregate-put-out
-slice-aggregate-put-out c = let start = c .before .before .before .before .before .before .before .before .before .before .before in
+slice-aggregate-put-out c = let start = c .before .before .before .before .before .before .before .before .before .before .before .before in
     let a = start .args in
     let r = a .replay in
-    let h = heldOf (now (a .memory)) (now (a .store)) r in
+    let h = heldOf (now (a .memory)) (now (a .bad)) (now (a .store)) r in
     let long : length (r .pending) ≡ 64 = sym (length-map (r .pending) (λ (b : ℕ). b)) ∙ start .good .0 .1 .1 .1 .1 .1 .1 .1 .1 .1 .0 .1 .0 .1 in
     sym long
 
 put-out-requires : tie.Need-put-out-requires
 put-out-requires c κs = let then1 = c .before .before .before .before in
     let after-is-kept = then1 .before in
-    let start = c .before .before .before .before .before .before .before .before .before .before .before .before in
+    let start = c .before .before .before .before .before .before .before .before .before .before .before .before .before in
     let a = start .args in
     let r = a .replay in
-    let h = heldOf (now (a .memory)) (now (a .store)) r in
+    let h = heldOf (now (a .memory)) (now (a .bad)) (now (a .store)) r in
     let long : length (r .pending) ≡ 64 = sym (length-map (r .pending) (λ (b : ℕ). b)) ∙ start .good .0 .1 .1 .1 .1 .1 .1 .1 .1 .1 .0 .1 .0 .1 in
     let t = sym (after-is-kept .is-kept .ensures) ∙ then1 .if1 .taken in
     let k = kept-means (r .lines) (r .held) (r .waiting) (r .begun) t in
@@ -43,11 +43,11 @@ returns c = let after-put-out = c .before .before in
     let then2 = after-put-out .before .before .before in
     let then1 = then2 .before .before in
     let after-is-kept = then1 .before in
-    let start = c .before .before .before .before .before .before .before .before .before .before .before .before .before .before .before in
+    let start = c .before .before .before .before .before .before .before .before .before .before .before .before .before .before .before .before in
     let a = start .args in
     let r = a .replay in
-    let h = heldOf (now (a .memory)) (now (a .store)) r in
-    after-put-out .put-out .ensures (now (a .memory)) (now (a .store)) ∙ part-waits (flag (a .ends)) h (now (a .text)) (now (a .out)) (sym
+    let h = heldOf (now (a .memory)) (now (a .bad)) (now (a .store)) r in
+    after-put-out .put-out .ensures (now (a .memory)) (now (a .bad)) (now (a .store)) ∙ part-waits (flag (a .ends)) h (now (a .text)) (now (a .out)) (sym
     (after-is-kept .is-kept .ensures) ∙ then1 .if1 .taken) (then2 .if2 .taken)
 
 passed-requires : tie.Need-passed-requires
@@ -57,11 +57,11 @@ returns-2 : tie.Need-returns-2
 returns-2 c = let else2 = c .before .before .before in
     let then1 = else2 .before .before in
     let after-is-kept = then1 .before in
-    let start = c .before .before .before .before .before .before .before .before .before .before .before .before .before in
+    let start = c .before .before .before .before .before .before .before .before .before .before .before .before .before .before in
     let a = start .args in
     let r = a .replay in
-    let h = heldOf (now (a .memory)) (now (a .store)) r in
-    c .passed .ensures (now (a .memory)) (now (a .store)) (now (a .out)) ∙ part-stopped (flag (a .ends)) h (now (a .text)) (now (a .out)) (sym
+    let h = heldOf (now (a .memory)) (now (a .bad)) (now (a .store)) r in
+    c .passed .ensures (now (a .memory)) (now (a .bad)) (now (a .store)) (now (a .out)) ∙ part-stopped (flag (a .ends)) h (now (a .text)) (now (a .out)) (sym
     (after-is-kept .is-kept .ensures) ∙ then1 .if1 .taken) (else2 .if2 .left) (c .before .if3 .taken)
 
 replay-text-requires : tie.Need-replay-text-requires
@@ -84,11 +84,11 @@ returns-3 c = let after-replay-text = c .before .before .before .before .before 
     let else2 = else3 .before .before in
     let then1 = else2 .before .before in
     let after-is-kept = then1 .before in
-    let start = c .before .before .before .before .before .before .before .before .before .before .before .before .before .before .before .before
+    let start = c .before .before .before .before .before .before .before .before .before .before .before .before .before .before .before .before .before
     .before .before .before .before .before .before in
     let a = start .args in
     let r = a .replay in
-    let h = heldOf (now (a .memory)) (now (a .store)) r in
+    let h = heldOf (now (a .memory)) (now (a .bad)) (now (a .store)) r in
     after-replay-text .replay-text .ensures ∙ part-lines (flag (a .ends)) h (now (a .text)) (now (a .out)) (sym (after-is-kept .is-kept .ensures) ∙
     then1 .if1 .taken) (else2 .if2 .left) (else3 .if3 .left)
 
@@ -97,11 +97,11 @@ passed-requires-2 c κs = search needs
 
 returns-4 : tie.Need-returns-4
 returns-4 c = let after-is-kept = c .before .before in
-    let start = c .before .before .before .before .before .before .before .before .before in
+    let start = c .before .before .before .before .before .before .before .before .before .before in
     let a = start .args in
     let r = a .replay in
-    let h = heldOf (now (a .memory)) (now (a .store)) r in
-    c .passed2 .ensures (now (a .memory)) (now (a .store)) (now (a .out)) ∙ part-refused (flag (a .ends)) h (now (a .text)) (now (a .out)) (sym
+    let h = heldOf (now (a .memory)) (now (a .bad)) (now (a .store)) r in
+    c .passed2 .ensures (now (a .memory)) (now (a .bad)) (now (a .store)) (now (a .out)) ∙ part-refused (flag (a .ends)) h (now (a .text)) (now (a .out)) (sym
     (after-is-kept .is-kept .ensures) ∙ c .before .if1 .left)
 
 pub replay-part-spec : {M : Type 1} → statement M

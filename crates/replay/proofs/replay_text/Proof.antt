@@ -17,7 +17,7 @@ is-roomy-requires c κs = search needs
 replay-many-requires : tie.Need-replay-many-requires
 replay-many-requires c κs = let then1 = c .before .before .before in
     let after-is-roomy = then1 .before in
-    let start = c .before .before .before .before .before .before .before .before .before in
+    let start = c .before .before .before .before .before .before .before .before .before .before in
     let a = start .args in
     let r = a .replay in
     let k = kept-means (r .lines) (r .held) (r .waiting) (r .begun) (start .pre) in
@@ -37,10 +37,11 @@ returns : tie.Need-returns
 returns c = let after-replay-many = c .before .before .before .before .before .before in
     let then1 = after-replay-many .before .before .before .before in
     let after-is-roomy = then1 .before in
-    let start = c .before .before .before .before .before .before .before .before .before .before .before .before .before .before .before .before in
+    let start = c .before .before .before .before .before .before .before .before .before .before .before .before .before .before .before .before .before in
     let a = start .args in
     let r = a .replay in
-    after-replay-many .replay-many .ensures ∙ ap (λ (n : ℕ). replayed (a .ends) n (heldOf (now (a .memory)) (now (a .store)) r) (now (a .text)) (now
+    after-replay-many .replay-many .ensures ∙ ap (λ (n : ℕ). replayed (a .ends) n (heldOf (now (a .memory)) (now (a .bad)) (now (a .store)) r)
+    (now (a .text)) (now
     (a .out))) (at-most-many (r .held) (length (now (a .out))) (sym (after-is-roomy .is-roomy .ensures) ∙ then1 .if1 .taken))
 
 replay-one-requires : tie.Need-replay-one-requires
@@ -59,10 +60,11 @@ returns-2 : tie.Need-returns-2
 returns-2 c = let after-replay-one = c .before .before .before .before .before .before in
     let else1 = after-replay-one .before .before .before .before in
     let after-is-roomy = else1 .before in
-    let start = c .before .before .before .before .before .before .before .before .before .before .before .before .before .before .before .before in
+    let start = c .before .before .before .before .before .before .before .before .before .before .before .before .before .before .before .before .before in
     let a = start .args in
     let r = a .replay in
-    after-replay-one .replay-one .ensures ∙ ap (λ (n : ℕ). replayed (a .ends) n (heldOf (now (a .memory)) (now (a .store)) r) (now (a .text)) (now (a
+    after-replay-one .replay-one .ensures ∙ ap (λ (n : ℕ). replayed (a .ends) n (heldOf (now (a .memory)) (now (a .bad)) (now (a .store)) r)
+    (now (a .text)) (now (a
     .out))) (at-most-one (r .held) (length (now (a .out))) (sym (after-is-roomy .is-roomy .ensures) ∙ else1 .if1 .left))
 
 pub replay-text-spec : {M : Type 1} → statement M

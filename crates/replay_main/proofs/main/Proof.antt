@@ -5,11 +5,11 @@ use Rattle.replay_main.proofs.main.Statement.{statement}
 use Rattle.replay_main.proofs.main.Tie as tie
 
 abbrev Inv-loop : tie.InvT-loop
-Inv-loop memory₀ store₀ block₀ out₀ replay₀ turns₀ memory store block out replay turns = (length memory ≡ 65536) × (length store ≡ 16384) × (length
+Inv-loop memory₀ bad store₀ block₀ out₀ replay₀ turns₀ memory store block out replay turns = (length memory ≡ 65536) × (length store ≡ 16384) × (length
     block ≡ 65536) × (length out ≡ 65536)
 
 abbrev μ-loop : tie.MeasureT-loop
-μ-loop memory₀ store₀ block₀ out₀ replay₀ turns₀ memory store block out replay turns = turns
+μ-loop memory₀ bad store₀ block₀ out₀ replay₀ turns₀ memory store block out replay turns = turns
 
 arg-count-requires : tie.Need-arg-count-requires Inv-loop μ-loop
 arg-count-requires c κs = search needs
@@ -43,6 +43,9 @@ slice-aggregate-replay-input-3 c = search needs
 
 slice-aggregate-replay-input-4 : tie.Need-slice-aggregate-replay-input-4 Inv-loop μ-loop
 slice-aggregate-replay-input-4 c = search needs
+
+slice-aggregate-replay-input-5 : tie.Need-slice-aggregate-replay-input-5 Inv-loop μ-loop
+slice-aggregate-replay-input-5 c = search needs
 
 replay-input-requires : tie.Need-replay-input-requires Inv-loop μ-loop
 replay-input-requires c κs = search needs
@@ -79,6 +82,7 @@ main-spec =
     slice-aggregate-replay-input-2
     slice-aggregate-replay-input-3
     slice-aggregate-replay-input-4
+    slice-aggregate-replay-input-5
     replay-input-requires
     returns-2
     sub-turns

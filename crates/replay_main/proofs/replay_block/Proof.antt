@@ -6,11 +6,11 @@ use Rattle.replay_main.proofs.replay_block.Statement.{statement}
 use Rattle.replay_main.proofs.replay_block.Tie as tie
 
 abbrev Inv-loop : tie.InvT-loop
-Inv-loop memory₀ store₀ block ends out₀ replay₀ at₀ turns₀ memory store out replay at turns = (at ≤ length block) × (length memory ≡ length memory₀) ×
+Inv-loop memory₀ bad store₀ block ends out₀ replay₀ at₀ turns₀ memory store out replay at turns = (at ≤ length block) × (length memory ≡ length memory₀) ×
     (length store ≡ length store₀) × (length out ≡ length out₀)
 
 abbrev μ-loop : tie.MeasureT-loop
-μ-loop memory₀ store₀ block ends out₀ replay₀ at₀ turns₀ memory store out replay at turns = turns
+μ-loop memory₀ bad store₀ block ends out₀ replay₀ at₀ turns₀ memory store out replay at turns = turns
 
 loop-holds : tie.Need-loop-holds Inv-loop μ-loop
 loop-holds c = (search needs, refl, refl, refl)
@@ -27,12 +27,12 @@ same-length c = let after-replay-from = c .before .before .before .before .befor
 same-length-2 : tie.Need-same-length-2 Inv-loop μ-loop
 same-length-2 c = let after-replay-from = c .before .before .before .before .before .before .before .before in
     let at-loop = after-replay-from .before .before .before .before .before in
-    after-replay-from .replay-from .kept .1 .1 .0 ∙ at-loop .loop .inv .2
+    after-replay-from .replay-from .kept .1 .1 .1 .0 ∙ at-loop .loop .inv .2
 
 same-length-3 : tie.Need-same-length-3 Inv-loop μ-loop
 same-length-3 c = let after-replay-from = c .before .before .before .before .before .before .before .before in
     let at-loop = after-replay-from .before .before .before .before .before in
-    after-replay-from .replay-from .kept .1 .1 .1 .1 .1 .1 .0 ∙ at-loop .loop .inv .3
+    after-replay-from .replay-from .kept .1 .1 .1 .1 .1 .1 .1 .0 ∙ at-loop .loop .inv .3
 
 returns : tie.Need-returns Inv-loop μ-loop
 returns c = search needs
@@ -48,20 +48,20 @@ same-length-4 c = let after-replay-from = c .before .before .before .before .bef
 same-length-5 : tie.Need-same-length-5 Inv-loop μ-loop
 same-length-5 c = let after-replay-from = c .before .before .before .before .before .before .before .before .before .before .before in
     let at-loop = after-replay-from .before .before .before .before .before in
-    after-replay-from .replay-from .kept .1 .1 .0 ∙ at-loop .loop .inv .2
+    after-replay-from .replay-from .kept .1 .1 .1 .0 ∙ at-loop .loop .inv .2
 
 same-length-6 : tie.Need-same-length-6 Inv-loop μ-loop
 same-length-6 c = let after-replay-from = c .before .before .before .before .before .before .before .before .before .before .before in
     let at-loop = after-replay-from .before .before .before .before .before in
-    after-replay-from .replay-from .kept .1 .1 .1 .1 .1 .1 .0 ∙ at-loop .loop .inv .3
+    after-replay-from .replay-from .kept .1 .1 .1 .1 .1 .1 .1 .0 ∙ at-loop .loop .inv .3
 
 returns-2 : tie.Need-returns-2 Inv-loop μ-loop
 returns-2 c = search needs
 
 add-at : tie.Need-add-at Inv-loop μ-loop
 add-at c = let low = c .before .before .before .before .before .before .before .before .before .before .before .replay-from .ensures in
-    let big = c .before .before .before .before .before .before .before .before .before .before .before .before .before .before .before .before
-    .before .before .before .before .before .good .1 .1 .1 .0 in
+    let big = c .before .before .before .before .before .before .before .before .before .before .before .before .before .before .before
+    .before .before .before .before .before .before .before .good .1 .1 .1 .1 .0 in
     search (needs, low, big)
 
 sub-turns : tie.Need-sub-turns Inv-loop μ-loop
@@ -75,9 +75,8 @@ loop-again c = let after-replay-from = c .before .before .before .before .before
     let at-loop = after-replay-from .before .before .before .before .before in (
       after-replay-from .replay-from .ensures,
       after-replay-from .replay-from .kept .1 .0 ∙ at-loop .loop .inv .1,
-      after-replay-from .replay-from .kept
-          .1 .1 .0 ∙ at-loop .loop .inv .2,
-      after-replay-from .replay-from .kept .1 .1 .1 .1 .1 .1 .0 ∙ at-loop .loop .inv .3,
+      after-replay-from .replay-from .kept .1 .1 .1 .0 ∙ at-loop .loop .inv .2,
+      after-replay-from .replay-from .kept .1 .1 .1 .1 .1 .1 .1 .0 ∙ at-loop .loop .inv .3,
     )
 
 same-length-7 : tie.Need-same-length-7 Inv-loop μ-loop

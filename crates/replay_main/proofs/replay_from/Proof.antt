@@ -23,8 +23,8 @@ replay-part-requires : tie.Need-replay-part-requires
 replay-part-requires c κs = search needs
 
 slice-reshare-prefix-write-lines : tie.Need-slice-reshare-prefix-write-lines
-slice-reshare-prefix-write-lines c = let start = c .before .before .before .before .before .before .before .before .before .before .before .before
-    .before .before .before .before in
+slice-reshare-prefix-write-lines c = let start = c .before .before .before .before .before .before .before .before .before .before .before
+    .before .before .before .before .before .before in
     let a = start .args in
     let p = c .before .before .before .before .before .before .before .replay-part in
     let b = left-bounded _ _ _ _ _ (p .ensures) in
@@ -33,12 +33,12 @@ slice-reshare-prefix-write-lines c = let start = c .before .before .before .befo
     let n = length-drop (a .at) (now (a .block)) in
     let most = length-take (length (now (a .block)) - a .at) (drop (a .at) (now (a .block))) in
     let low = start .pre in
-    let same = p .kept .1 .1 .1 .1 .1 .0 in
+    let same = p .kept .1 .1 .1 .1 .1 .1 .0 in
     omega arith
 
 slice-aggregate-write-lines : tie.Need-slice-aggregate-write-lines
-slice-aggregate-write-lines c = let start = c .before .before .before .before .before .before .before .before .before .before .before .before .before
-    .before .before .before .before in
+slice-aggregate-write-lines c = let start = c .before .before .before .before .before .before .before .before .before .before .before
+    .before .before .before .before .before .before .before in
     let a = start .args in
     let p = c .before .before .before .before .before .before .before .before .replay-part in
     let b = left-bounded _ _ _ _ _ (p .ensures) in
@@ -47,7 +47,7 @@ slice-aggregate-write-lines c = let start = c .before .before .before .before .b
     let n = length-drop (a .at) (now (a .block)) in
     let most = length-take (length (now (a .block)) - a .at) (drop (a .at) (now (a .block))) in
     let low = start .pre in
-    let same = p .kept .1 .1 .1 .1 .1 .0 in
+    let same = p .kept .1 .1 .1 .1 .1 .1 .0 in
     sym (length-take-le _ _ (omega arith))
 
 write-lines-requires : tie.Need-write-lines-requires
@@ -63,8 +63,8 @@ same-length-3 : tie.Need-same-length-3
 same-length-3 c = search needs
 
 returns : tie.Need-returns
-returns c = let start = c .before .before .before .before .before .before .before .before .before .before .before .before .before .before .before
-    .before .before .before in
+returns c = let start = c .before .before .before .before .before .before .before .before .before .before .before .before .before .before
+    .before .before .before .before .before in
     let a = start .args in
     let p = c .before .before .before .before .before .before .before .before .before .replay-part in
     let b = left-bounded _ _ _ _ _ (p .ensures) in
@@ -73,7 +73,7 @@ returns c = let start = c .before .before .before .before .before .before .befor
     let n = length-drop (a .at) (now (a .block)) in
     let most = length-take (length (now (a .block)) - a .at) (drop (a .at) (now (a .block))) in
     let low = start .pre in
-    let same = p .kept .1 .1 .1 .1 .1 .0 in
+    let same = p .kept .1 .1 .1 .1 .1 .1 .0 in
     omega arith
 
 pub replay-from-spec : {M : Type 1} → statement M

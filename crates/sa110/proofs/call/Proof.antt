@@ -17,8 +17,8 @@ same-length-2 c = search needs
 
 returns : tie.Need-returns
 returns c = let after-state-refusal = c .before in
-    let start = after-state-refusal .before .before .before .before .before in
-    let a = start .args in sym (state-refused (machineIn (now (a .memory)) (now (a .store)) (a .state) (a .cp15)) (a .c) _
+    let start = after-state-refusal .before .before .before .before .before .before in
+    let a = start .args in sym (state-refused (machineIn (now (a .memory)) (now (a .bad)) (now (a .store)) (a .state) (a .cp15)) (a .c) _
     (after-state-refusal .state-refusal .ensures) (c .if1 .taken))
 
 serve-requires : tie.Need-serve-requires

@@ -29,9 +29,9 @@ returns : tie.Need-returns
 returns c =
     let after-refuse-calls = c .before .before in let then1 = after-refuse-calls .before .before in let after-state-refusal = then1 .before in
     let after-calls-held = after-state-refusal .before .before .before in
-    let start = after-calls-held .before .before .before .before .before .before in
+    let start = after-calls-held .before .before .before .before .before .before .before in
     let a = start .args in
-    let m = (machineIn (now (a .memory)) (now (a .store)) (a .state) (a .cp15)) in
+    let m = (machineIn (now (a .memory)) (now (a .bad)) (now (a .store)) (a .state) (a .cp15)) in
     all-refused m _ (after-state-refusal .state-refusal .ensures) (then1 .if1 .taken) _ (now (a .answers)) _ _
     (after-refuse-calls .refuse-calls .ensures) ∙ sym (run-as m (now (a .calls)) (now (a .answers)) _ (after-calls-held .calls-held .ensures))
 
@@ -50,9 +50,9 @@ same-length-6 c = search needs
 returns-2 : tie.Need-returns-2
 returns-2 c = let after-run-served = c .before .before .before .before .before .before in
     let after-calls-held = after-run-served .before .before .before .before .before .before .before .before in
-    let start = after-calls-held .before .before .before .before .before .before in
+    let start = after-calls-held .before .before .before .before .before .before .before in
     let a = start .args in
-    let m = machineIn (now (a .memory)) (now (a .store)) (a .state) (a .cp15) in
+    let m = machineIn (now (a .memory)) (now (a .bad)) (now (a .store)) (a .state) (a .cp15) in
     after-run-served .run-served .ensures ∙ sym (run-as m (now (a .calls)) (now (a .answers)) _ (after-calls-held .calls-held .ensures))
 
 pub run-spec : {M : Type 1} → statement M

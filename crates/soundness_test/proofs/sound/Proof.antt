@@ -71,7 +71,7 @@ returns c =
     let numbers = small .before .before in
     let a = numbers .before .before .before .before .before .before .args in
     let lines = linesOf (now (a .lines)) in
-    λ memory store size e.
+    λ memory bad store size e.
     c .both7 .ensures ∙ ap (λ (b : Bool). leb (a .cp15 .pointer) 31 && b)
     (pair (sets .both6 .ensures) (sets .before .pointers-sound .ensures)
     (pair-under (all (lineSound (length memory)) lines) (tags .both5 .ensures) (tags .before .tags-sound .ensures (length memory))

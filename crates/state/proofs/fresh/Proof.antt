@@ -9,7 +9,7 @@ zero-counts-requires c κs = search needs
 returns : tie.Need-returns
 returns c =
     let start = c .before in
-    let a = start .args in λ m st. rw (c .zero-counts .ensures) (fresh-is (a .size) m st)
+    let a = start .args in λ m bad st. rw (c .zero-counts .ensures) (fresh-is (a .size) m bad st)
 
 pub fresh-spec : {M : Type 1} → statement M
 fresh-spec = tie.close (tie.spec zero-counts-requires returns)

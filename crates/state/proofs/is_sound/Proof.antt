@@ -26,7 +26,7 @@ sound-requires c κs = search needs
 returns : tie.Need-returns
 returns c = let after-unpacked = c .before .before .before .before .before .before in
     let start = after-unpacked .before .before .before .before .before .before .before in
-    let a = start .args in λ m st e. rw (after-unpacked .unpacked .ensures) at (c .sound .ensures m st (a .state .size) e)
+    let a = start .args in λ m bad st e. rw (after-unpacked .unpacked .ensures) at (c .sound .ensures m bad st (a .state .size) e)
 
 pub is-sound-spec : {M : Type 1} → statement M
 is-sound-spec =

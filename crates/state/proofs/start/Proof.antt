@@ -18,9 +18,9 @@ returns c =
     let then1 = c .before in let after-lent-refusal = then1 .before in let after-zero-cp15 = after-lent-refusal .before in
     let start = after-zero-cp15 .before .before .before in
     let a = start .args in
-    rw (after-zero-cp15 .zero-cp15 .ensures) (start-served (now (a .memory)) (now (a .store)) _ _
+    λ bad. rw (after-zero-cp15 .zero-cp15 .ensures) (start-served (now (a .memory)) (now (a .store)) bad _ _
     (start-by (now (a .memory)) (now (a .store)) _ (after-lent-refusal .lent-refusal .ensures)) (then1 .if1 .taken)
-    (c .fresh .ensures (now (a .memory)) (now (a .store))))
+    (c .fresh .ensures (now (a .memory)) bad (now (a .store))))
 
 fresh-requires-2 : tie.Need-fresh-requires-2
 fresh-requires-2 c κs = search needs
@@ -30,9 +30,9 @@ returns-2 c =
     let else1 = c .before in let after-lent-refusal = else1 .before in let after-zero-cp15 = after-lent-refusal .before in
     let start = after-zero-cp15 .before .before .before in
     let a = start .args in
-    rw (after-zero-cp15 .zero-cp15 .ensures) (start-refused (now (a .memory)) (now (a .store)) _ _
+    λ bad. rw (after-zero-cp15 .zero-cp15 .ensures) (start-refused (now (a .memory)) (now (a .store)) bad _ _
     (start-by (now (a .memory)) (now (a .store)) _ (after-lent-refusal .lent-refusal .ensures)) (else1 .if1 .left)
-    (c .fresh2 .ensures (now (a .memory)) (now (a .store))))
+    (c .fresh2 .ensures (now (a .memory)) bad (now (a .store))))
 
 pub start-spec : {M : Type 1} → statement M
 start-spec =

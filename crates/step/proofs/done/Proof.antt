@@ -12,7 +12,7 @@ enum-known-c c = search needs
 serve-requires : tie.Need-serve-requires
 serve-requires c κs =
     let arm-c = c .before .before .before .before .before .before .before .before in
-    let start = arm-c .before .before .before .before .before .before .before .before in
+    let start = arm-c .before .before .before .before .before .before .before .before .before in
     (start .pre .0, start .pre .1, start .pre .2, access-accepted (arm-c .c .given .0 .0) (rw (arm-c .c .given .1) at (start .pre .4)) .0)
 
 enum-known-c-2 : tie.Need-enum-known-c-2
@@ -26,11 +26,11 @@ enum-known-c-3 c = search needs
 
 write-requires : tie.Need-write-requires
 write-requires c κs =
-    let start = c .before .before .before .before .before .before .before .before .before .before .before .before .before .before .before in
+    let start = c .before .before .before .before .before .before .before .before .before .before .before .before .before .before .before .before in
     let a = start .args in (
       start .pre .1 .entries-long,
       clean-ready (a .s)
-          (lists (now (a .memory)) (now (a .words)) (now (a .bytes)) (now (a .lines)) (now (a .pointers)) (now (a .store))) (start .pre .2),
+          (lists (now (a .memory)) (now (a .bad)) (now (a .words)) (now (a .bytes)) (now (a .lines)) (now (a .pointers)) (now (a .store))) (start .pre .2),
     )
 
 same-length : tie.Need-same-length
@@ -59,10 +59,11 @@ returns c =
 
 returns-2 : tie.Need-returns-2
 returns-2 c =
-    let arm-c2 = c .before .before in let start = arm-c2 .before .before .before .before .before .before .before .before in
+    let arm-c2 = c .before .before in let start = arm-c2 .before .before .before .before .before .before .before .before .before in
     let a = start .args in (
       (λ n. rw (arm-c2 .c2 .given .1) (c .read .ensures
-          (lists (now (a .memory)) (now (a .words)) (now (a .bytes)) (now (a .lines)) (now (a .pointers)) (now (a .store))) (now (a .entries)) n)),
+          (lists (now (a .memory)) (now (a .bad)) (now (a .words)) (now (a .bytes)) (now (a .lines)) (now (a .pointers)) (now (a .store)))
+          (now (a .entries)) n)),
       start .pre .2 .fits .bytes-long,
     )
 
@@ -85,7 +86,7 @@ returns-3 : tie.Need-returns-3
 returns-3 c =
     let after-write = c .before .before .before .before .before .before .before .before in
     let arm-c3 = after-write .before .before .before .before .before .before .before .before in
-    let start = arm-c3 .before .before .before .before .before .before .before .before in
+    let start = arm-c3 .before .before .before .before .before .before .before .before .before in
     let a = start .args in ((λ n. rw (arm-c3 .c3 .given .1) (after-write .write .ensures .0 (now (a .pointers)) n)), after-write .write .ensures .1)
 
 pub done-spec : {M : Type 1} → statement M

@@ -11,21 +11,22 @@ use Rattle.machine.specs.Lists.{Lists}
 use Rattle.machine.specs.Lists.{lists}
 
 abbrev Inv-loop : tie.InvT-loop
-Inv-loop table memory₀ words₀ bytes₀ lines₀ pointers₀ store₀ entries₀ calls answers₀ n s₀ i₀ memory words bytes lines pointers store entries answers s i =
-    Going (lists memory₀ words₀ bytes₀ lines₀ pointers₀ store₀) entries₀ calls answers₀ s₀ n (lists memory words bytes lines pointers store) entries answers s i
+Inv-loop table memory₀ bad words₀ bytes₀ lines₀ pointers₀ store₀ entries₀ calls answers₀ n s₀ i₀ memory words bytes lines pointers store entries answers s i =
+    Going (lists memory₀ bad words₀ bytes₀ lines₀ pointers₀ store₀) entries₀ calls answers₀ s₀ n
+    (lists memory bad words bytes lines pointers store) entries answers s i
 
 abbrev μ-loop : tie.MeasureT-loop
-μ-loop table memory₀ words₀ bytes₀ lines₀ pointers₀ store₀ entries₀ calls answers₀ n s₀ i₀ memory words bytes lines pointers store entries answers s i =
+μ-loop table memory₀ bad words₀ bytes₀ lines₀ pointers₀ store₀ entries₀ calls answers₀ n s₀ i₀ memory words bytes lines pointers store entries answers s i =
     n - i
 
 loop-holds : tie.Need-loop-holds Inv-loop μ-loop
-loop-holds c = let start = c .before .before .before .before .before .before .before .before in
-    let a = start .args in going-start (lists (now (a .memory)) (now (a .words)) (now (a .bytes)) (now (a .lines)) (now (a .pointers))
+loop-holds c = let start = c .before .before .before .before .before .before .before .before .before in
+    let a = start .args in going-start (lists (now (a .memory)) (now (a .bad)) (now (a .words)) (now (a .bytes)) (now (a .lines)) (now (a .pointers))
     (now (a .store))) (now (a .entries)) (now (a .calls)) (now (a .answers)) (a .first) (a .n) (start .pre .3) (start .pre .1) (start .pre .2) (start .pre .4)
 
 is-call-at-requires : tie.Need-is-call-at-requires Inv-loop μ-loop
 is-call-at-requires c κs =
-    let start = c .before .before .before .before .before .before .before .before .before .before in
+    let start = c .before .before .before .before .before .before .before .before .before .before .before in
     omega (arith, start .pre .3 .calls-hold)
 
 same-length : tie.Need-same-length Inv-loop μ-loop
@@ -53,31 +54,32 @@ returns : tie.Need-returns Inv-loop μ-loop
 returns c = let after-is-call-at = c .before in
     let in-loop = after-is-call-at .before in
     let at-loop = in-loop .before in
-    let start = at-loop .before .before .before .before .before .before .before .before .before in
+    let start = at-loop .before .before .before .before .before .before .before .before .before .before in
     let a = start .args in
     let l = at-loop .loop in
-    going-stop (lists (now (a .memory)) (now (a .words)) (now (a .bytes)) (now (a .lines)) (now (a .pointers)) (now (a .store))) (now (a .entries))
+    going-stop (lists (now (a .memory)) (now (a .bad)) (now (a .words)) (now (a .bytes)) (now (a .lines)) (now (a .pointers)) (now (a .store)))
+    (now (a .entries))
     (now (a .calls)) (now (a .answers)) (a .first) (a .n) (start .pre .3)
-    (lists (l .memory) (l .words) (l .bytes) (l .lines) (l .pointers) (l .store)) (l .entries) (l .answers) (l .s) (l .i) (l .inv)
+    (lists (l .memory) (now (a .bad)) (l .words) (l .bytes) (l .lines) (l .pointers) (l .store)) (l .entries) (l .answers) (l .s) (l .i) (l .inv)
     (in-loop .loop-test .taken) (sym (after-is-call-at .is-call-at .ensures) ∙ not-true _ (c .if1 .taken))
 
 call-at-requires : tie.Need-call-at-requires Inv-loop μ-loop
 call-at-requires c κs =
-    let start = c .before .before .before .before .before .before .before .before .before .before .before .before in
+    let start = c .before .before .before .before .before .before .before .before .before .before .before .before .before in
     omega (arith, start .pre .3 .calls-hold)
 
 step-requires : tie.Need-step-requires Inv-loop μ-loop
 step-requires c κs = let at-loop = c .before .before .before .before .before .before .before .before .before .before .before in
-    let start = at-loop .before .before .before .before .before .before .before .before .before in
+    let start = at-loop .before .before .before .before .before .before .before .before .before .before in
     let a = start .args in
     let l = at-loop .loop in (
       start .pre .0,
       l .inv .words-long,
       l .inv .bytes-long,
       serves-now
-          (lists (now (a .memory)) (now (a .words)) (now (a .bytes)) (now (a .lines)) (now (a .pointers)) (now (a .store))) (now (a .entries))
+          (lists (now (a .memory)) (now (a .bad)) (now (a .words)) (now (a .bytes)) (now (a .lines)) (now (a .pointers)) (now (a .store))) (now (a .entries))
           (now (a .calls)) (now (a .answers)) (a .first) (a .n) (start .pre .3)
-          (lists (l .memory) (l .words) (l .bytes) (l .lines) (l .pointers) (l .store)) (l .entries) (l .answers) (l .s) (l .i) (l .inv),
+          (lists (l .memory) (now (a .bad)) (l .words) (l .bytes) (l .lines) (l .pointers) (l .store)) (l .entries) (l .answers) (l .s) (l .i) (l .inv),
     )
 
 code-requires : tie.Need-code-requires Inv-loop μ-loop
@@ -85,28 +87,28 @@ code-requires c κs = search needs
 
 mul-answers : tie.Need-mul-answers Inv-loop μ-loop
 mul-answers c =
-    let small = c .before .before .before .before .before .before .before .before .before .before .before .before .before .before .before .before
+    let small = c .before .before .before .before .before .before .before .before .before .before .before .before .before .before .before .before .before
     .before .before .before .before .before .before .before .before .before .before .before .before .before .before .before .before .before .before
-    .good .1 .1 .1 .1 .1 .1 .1 .1 .1 .1 .0 in
-    let hold = c .before .before .before .before .before .before .before .before .before .before .before .before .before .before .before .before
+    .good .1 .1 .1 .1 .1 .1 .1 .1 .1 .1 .1 .0 in
+    let hold = c .before .before .before .before .before .before .before .before .before .before .before .before .before .before .before .before .before
     .before .before .before .before .before .before .before .before .before .before .before .before .before .before .before .before .before .before
     .pre .3 .answers-hold in
     omega (arith, small, hold)
 
 slice-write-answers : tie.Need-slice-write-answers Inv-loop μ-loop
 slice-write-answers c =
-    let hold = c .before .before .before .before .before .before .before .before .before .before .before .before .before .before .before .before
+    let hold = c .before .before .before .before .before .before .before .before .before .before .before .before .before .before .before .before .before
     .before .before .before .before .before .before .before .before .before .before .before .before .before .before .before .before .before .before
     .pre .3 .answers-hold in
-    let long = c .before .before .before .before .before .before .before .before .before .before .before .before .before .before .before .before
-    .before .before .before .before .before .before .before .before .before .loop .inv .long in
+    let long = c .before .before .before .before .before .before .before .before .before .before .before .before .before .before .before .before .before
+    .before .before .before .before .before .before .before .before .loop .inv .long in
     omega (arith, hold, long)
 
 add-i : tie.Need-add-i Inv-loop μ-loop
 add-i c =
-    let small = c .before .before .before .before .before .before .before .before .before .before .before .before .before .before .before .before
-    .before .before .before .before .before .before .before .before .before .before .before .before .before .before .before .before .before .before
-    .before .fits .n in
+    let small = c .before .before .before .before .before .before .before .before .before .before .before .before .before .before .before .before .before
+    .before .before .before .before .before .before .before .before .before .before .before .before .before .before .before .before .before .before .before
+    .fits .n in
     omega (arith, small)
 
 loop-less : tie.Need-loop-less Inv-loop μ-loop
@@ -120,29 +122,29 @@ loop-again c = let after-code = c .before in
     let after-is-call-at = else1 .before in
     let in-loop = after-is-call-at .before in
     let at-loop = in-loop .before in
-    let after-shared-slice-known = at-loop .before .before in
-    let start = after-shared-slice-known .before .before .before .before .before .before .before in
+    let known-calls = at-loop .before .before in
+    let start = known-calls .before .before .before .before .before .before .before .before in
     let a = start .args in
     let l = at-loop .loop in
     let st = after-step .step in
-    let k : Lists = (lists (st .last .1 .0) (st .last .1 .1 .0) (st .last .1 .1 .1 .0) (st .last .1 .1 .1 .1 .0) (st .last .1 .1 .1 .1 .1 .0)
-    (st .last .1 .1 .1 .1 .1 .1 .0)) in
-    let y : SameLengths (lists (l .memory) (l .words) (l .bytes) (l .lines) (l .pointers) (l .store)) k (l .entries)
-    (st .last .1 .1 .1 .1 .1 .1 .1 .0) = record {
+    let k : Lists = (lists (st .last .1 .0) (now (a .bad)) (st .last .1 .1 .1 .0) (st .last .1 .1 .1 .1 .0) (st .last .1 .1 .1 .1 .1 .0)
+    (st .last .1 .1 .1 .1 .1 .1 .0) (st .last .1 .1 .1 .1 .1 .1 .1 .0)) in
+    let y : SameLengths (lists (l .memory) (now (a .bad)) (l .words) (l .bytes) (l .lines) (l .pointers) (l .store)) k (l .entries)
+    (st .last .1 .1 .1 .1 .1 .1 .1 .1 .0) = record {
       memory = st .kept .1 .0;
-      words = st .kept .1 .1 .0;
-      lines = st .kept .1 .1 .1 .1 .0;
-      pointers = st .kept .1 .1 .1 .1 .1 .0;
-      store = st .kept .1 .1 .1 .1 .1 .1 .0;
-      entries = st .kept .1 .1 .1 .1 .1 .1 .1 .0;
+      words = st .kept .1 .1 .1 .0;
+      lines = st .kept .1 .1 .1 .1 .1 .0;
+      pointers = st .kept .1 .1 .1 .1 .1 .1 .0;
+      store = st .kept .1 .1 .1 .1 .1 .1 .1 .0;
+      entries = st .kept .1 .1 .1 .1 .1 .1 .1 .1 .0;
     } in
-    going-on (lists (now (a .memory)) (now (a .words)) (now (a .bytes)) (now (a .lines)) (now (a .pointers)) (now (a .store))) (now (a .entries))
+    going-on (lists (now (a .memory)) (now (a .bad)) (now (a .words)) (now (a .bytes)) (now (a .lines)) (now (a .pointers)) (now (a .store))) (now (a .entries))
     (now (a .calls)) (now (a .answers)) (a .first) (a .n) (start .pre .3)
-    (lists (l .memory) (l .words) (l .bytes) (l .lines) (l .pointers) (l .store)) (l .entries) (l .answers) (l .s) (l .i) (l .inv) k
-    (st .last .1 .1 .1 .1 .1 .1 .1 .0) (st .result) (after-call-at .call-at .result) (after-code .code .result) (in-loop .loop-test .taken)
+    (lists (l .memory) (now (a .bad)) (l .words) (l .bytes) (l .lines) (l .pointers) (l .store)) (l .entries) (l .answers) (l .s) (l .i) (l .inv) k
+    (st .last .1 .1 .1 .1 .1 .1 .1 .1 .0) (st .result) (after-call-at .call-at .result) (after-code .code .result) (in-loop .loop-test .taken)
     (sym (after-is-call-at .is-call-at .ensures) ∙ not-false _ (else1 .if1 .left)) (after-call-at .call-at .ensures)
-    (numbers-of _ _ _ _ _ (omega (arith, after-shared-slice-known .shared-slice-known .given (l .i * 5 + 3)))
-    (omega (arith, after-shared-slice-known .shared-slice-known .given (l .i * 5 + 4)))) (st .ensures .0) y (st .ensures .1) (after-code .code .ensures)
+    (numbers-of _ _ _ _ _ (omega (arith, known-calls .shared-slice-known2 .given (l .i * 5 + 3)))
+    (omega (arith, known-calls .shared-slice-known2 .given (l .i * 5 + 4)))) (st .ensures .0) y (st .ensures .1) (after-code .code .ensures)
 
 same-length-8 : tie.Need-same-length-8 Inv-loop μ-loop
 same-length-8 c = c .before .loop .inv .same .memory
@@ -167,12 +169,14 @@ same-length-14 c = c .before .loop .inv .long
 
 returns-2 : tie.Need-returns-2 Inv-loop μ-loop
 returns-2 c = let at-loop = c .before in
-    let start = at-loop .before .before .before .before .before .before .before .before .before in
+    let start = at-loop .before .before .before .before .before .before .before .before .before .before in
     let a = start .args in
     let l = at-loop .loop in
-    going-end (lists (now (a .memory)) (now (a .words)) (now (a .bytes)) (now (a .lines)) (now (a .pointers)) (now (a .store))) (now (a .entries))
+    going-end (lists (now (a .memory)) (now (a .bad)) (now (a .words)) (now (a .bytes)) (now (a .lines)) (now (a .pointers)) (now (a .store)))
+    (now (a .entries))
     (now (a .calls)) (now (a .answers)) (a .first) (a .n) (start .pre .3)
-    (lists (l .memory) (l .words) (l .bytes) (l .lines) (l .pointers) (l .store)) (l .entries) (l .answers) (l .s) (l .i) (l .inv) (c .loop-test .left)
+    (lists (l .memory) (now (a .bad)) (l .words) (l .bytes) (l .lines) (l .pointers) (l .store)) (l .entries) (l .answers) (l .s) (l .i) (l .inv)
+    (c .loop-test .left)
 
 pub run-calls-spec : {M : Type 1} → statement M
 run-calls-spec =

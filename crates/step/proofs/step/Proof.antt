@@ -14,9 +14,9 @@ use Rattle.step.proofs.step.Tie as tie
 
 returns : tie.Need-returns
 returns c =
-    let start = c .before .before .before .before .before .before .before .before in
+    let start = c .before .before .before .before .before .before .before .before .before in
     let a = start .args in (
-      sym (refused-five (lists (now (a .memory)) (now (a .words)) (now (a .bytes)) (now (a .lines)) (now (a .pointers))
+      sym (refused-five (lists (now (a .memory)) (now (a .bad)) (now (a .words)) (now (a .bytes)) (now (a .lines)) (now (a .pointers))
           (now (a .store))) (now (a .entries)) (a .s) (length (now (a .memory))) (start .pre .3) (a .c) (c .if1 .taken)),
       start .pre .2,
     )
@@ -27,9 +27,9 @@ refusal-requires c κs = search needs
 returns-2 : tie.Need-returns-2
 returns-2 c =
     let after-refusal = c .before in let else1 = after-refusal .before in
-    let start = else1 .before .before .before .before .before .before .before .before in
+    let start = else1 .before .before .before .before .before .before .before .before .before in
     let a = start .args in (
-      sym (refused-by (lists (now (a .memory)) (now (a .words)) (now (a .bytes)) (now (a .lines)) (now (a .pointers))
+      sym (refused-by (lists (now (a .memory)) (now (a .bad)) (now (a .words)) (now (a .bytes)) (now (a .lines)) (now (a .pointers))
           (now (a .store))) (now (a .entries)) (a .s) (length (now (a .memory))) (start .pre .3) (a .c) (else1 .if1 .left) _
           (after-refusal .refusal .ensures) (c .if2 .taken)),
       start .pre .2,
@@ -42,9 +42,9 @@ done-requires : tie.Need-done-requires
 done-requires c κs =
     let else2 = c .before .before .before .before .before .before .before .before in let after-refusal = else2 .before in
     let else1 = after-refusal .before in let known-scalars = else1 .before in
-    let start = known-scalars .before .before .before .before .before .before .before in
+    let start = known-scalars .before .before .before .before .before .before .before .before in
     let a = start .args in
-    let l = (lists (now (a .memory)) (now (a .words)) (now (a .bytes)) (now (a .lines)) (now (a .pointers)) (now (a .store))) in
+    let l = (lists (now (a .memory)) (now (a .bad)) (now (a .words)) (now (a .bytes)) (now (a .lines)) (now (a .pointers)) (now (a .store))) in
     let es = now (a .entries) in
     let n = length (now (a .memory)) in
     let low : a .s .counts .calls < countLimit = omega (arith, else1 .if1 .left, known-scalars .struct-known .given) in
@@ -80,11 +80,11 @@ returns-3 c =
     let after-done = c .before .before .before .before .before .before .before .before .before .before .before .before in
     let after-counted = after-done .before in let else2 = after-counted .before .before .before .before .before .before .before .before in
     let after-refusal = else2 .before in let else1 = after-refusal .before in
-    let start = else1 .before .before .before .before .before .before .before .before in
+    let start = else1 .before .before .before .before .before .before .before .before .before in
     let a = start .args in
     let n = length (now (a .memory)) in (
       rw (after-counted .counted .ensures) at (after-done .done .ensures .0 n)
-          ∙ sym (not-refused (lists (now (a .memory)) (now (a .words)) (now (a .bytes)) (now (a .lines)) (now (a .pointers)) (now (a .store)))
+          ∙ sym (not-refused (lists (now (a .memory)) (now (a .bad)) (now (a .words)) (now (a .bytes)) (now (a .lines)) (now (a .pointers)) (now (a .store)))
           (now (a .entries)) (a .s) n (start .pre .3) (a .c) (else1 .if1 .left) (sym (after-refusal .refusal .ensures) ∙ else2 .if2 .left)),
       after-done .done .ensures .1,
     )

@@ -1,15 +1,12 @@
-use Rattle.stores.proofs.Laws.{stores-in, buffered-left}
+use Rattle.stores.proofs.Laws.{buffered-left}
 use Rattle.machine.specs.Lists.{lists}
 use denote.Ref.{now}
 use borrow.Author.Needs.{needs}
 use Rattle.stores.proofs.store_buffered.Statement.{statement}
 use Rattle.stores.proofs.store_buffered.Tie as tie
 
-store-requires : tie.Need-store-requires
-store-requires c κs =
-    let start = c .before .before .before .before .before in
-    let a = start .args in
-    (start .pre .0 .fits, stores-in (now (a .memory)) (now (a .words)) (now (a .bytes)) (a .s .used) (a .a) (a .p) (start .pre .0) (start .pre .1))
+buffer-or-drop-requires : tie.Need-buffer-or-drop-requires
+buffer-or-drop-requires c κs = search needs
 
 with-used-requires : tie.Need-with-used-requires
 with-used-requires c κs = search needs
@@ -25,17 +22,25 @@ same-length-2 c = search needs
 
 returns : tie.Need-returns
 returns c =
-    let after-with-used = c .before in let after-store = after-with-used .before .before .before .before .before in
-    let start = after-store .before .before .before .before .before .before in
+    let after-with-used = c .before in
+    let after-buffer = after-with-used .before .before .before .before .before in
+    let start = after-buffer .before .before .before .before .before .before .before in
     let a = start .args in
+    let o = after-buffer .buffer-or-drop .last in
     λ ls ps st. record {
-      same = λ es n. buffered-left es (a .s) n (a .a) (a .v) (lists (now (a .memory)) (now (a .words)) (now (a .bytes)) ls ps st) _ (a .p) _
-          (after-store .store .last .0) (after-store .store .last .1 .0) (after-store .store .last .1 .1 .0) (after-store .store .result) (start .pre .1)
-          (after-store .store .ensures) (after-with-used .with-used .ensures) (c .stored .ensures);
-      bytes-long = after-store .store .ensures .fits .bytes-long;
+      same = λ es n. buffered-left es (a .s) n (a .a) (a .v) (lists (now (a .memory)) (now (a .bad)) (now (a .words)) (now (a .bytes)) ls ps st) _ (a .p) _
+          (o .0) (o .1 .1 .0) (o .1 .1 .1 .0) (after-buffer .buffer-or-drop .result) (after-buffer .buffer-or-drop .ensures)
+          (after-with-used .with-used .ensures) (c .stored .ensures);
+      bytes-long = after-buffer .buffer-or-drop .ensures .fits .bytes-long;
     }
 
 pub store-buffered-spec : {M : Type 1} → statement M
 store-buffered-spec =
     tie.close
-    (tie.spec store-requires with-used-requires stored-requires same-length same-length-2 returns)
+    (tie.spec
+    buffer-or-drop-requires
+    with-used-requires
+    stored-requires
+    same-length
+    same-length-2
+    returns)

@@ -30,7 +30,7 @@ returns : tie.Need-returns
 returns c =
     let after-hit = c .before in let after-store = after-hit .before .before .before .before .before in
     let after-cleared = after-store .before .before .before in let start = after-cleared .before .before .before in
-    let a = start .args in λ m ws bs ps es n. store-hit-left es (a .s) n (a .a) (a .v) (lists m ws bs (now (a .lines)) ps (now (a .store))) _
+    let a = start .args in λ m bad ws bs ps es n. store-hit-left es (a .s) n (a .a) (a .v) (lists m bad ws bs (now (a .lines)) ps (now (a .store))) _
     (after-store .store .last .0) (after-store .store .last .1 .0) (a .i) _ _ (after-cleared .cleared .ensures) (after-store .store .ensures ps)
     (after-hit .hit .ensures) (c .stored .ensures)
 

@@ -23,7 +23,7 @@ swap-hit-requires : tie.Need-swap-hit-requires
 swap-hit-requires c κs =
     let arm = c .before .before .before .before in
     let search-done = arm .before .before in
-    let start = search-done .before .before .before .before .before .before .before .before in (
+    let start = search-done .before .before .before .before .before .before .before .before .before in (
       start .pre .1,
       start .pre .2,
       find-low (now (start .args .lines)) _ _ (start .pre .1) (sym (search-done .find .ensures) ∙ arm .found .given .1),
@@ -45,10 +45,10 @@ returns c =
     let search-done = arm .before .before in
     let kinds = search-done .before .before in
     let clearing = kinds .before in
-    let start = clearing .before .before .before .before .before in
+    let start = clearing .before .before .before .before .before .before in
     let a = start .args in
-    λ ps. let l = lists (now (a .memory)) (now (a .words)) (now (a .bytes)) (now (a .lines)) ps (now (a .cached)) in record {
-      same = λ es n. made .swap-hit .ensures (now (a .memory)) (now (a .words)) (now (a .bytes)) ps es n
+    λ ps. let l = lists (now (a .memory)) (now (a .bad)) (now (a .words)) (now (a .bytes)) (now (a .lines)) ps (now (a .cached)) in record {
+      same = λ es n. made .swap-hit .ensures (now (a .memory)) (now (a .bad)) (now (a .words)) (now (a .bytes)) ps es n
           ∙ sym (found-swap (machineOf l es (a .s) n) (a .a) (a .v) (a .p) _ (clearing .cleared .ensures) _
           (sym (kinds .is-swap .ensures) ∙ by-kind .if1 .taken) (sym (search-done .find .ensures) ∙ arm .found .given .1));
       bytes-long = start .pre .0 .fits .bytes-long;
@@ -58,7 +58,7 @@ store-hit-requires : tie.Need-store-hit-requires
 store-hit-requires c κs =
     let arm = c .before .before .before .before in
     let search-done = arm .before .before in
-    let start = search-done .before .before .before .before .before .before .before .before in (
+    let start = search-done .before .before .before .before .before .before .before .before .before in (
       start .pre .1,
       start .pre .2,
       find-low (now (start .args .lines)) _ _ (start .pre .1) (sym (search-done .find .ensures) ∙ arm .found .given .1),
@@ -89,9 +89,9 @@ returns-2 c =
     let search-done = arm .before .before in
     let kinds = search-done .before .before in
     let clearing = kinds .before in
-    let start = clearing .before .before .before .before .before in
+    let start = clearing .before .before .before .before .before .before in
     let a = start .args in
-    λ ps. let l = lists (now (a .memory)) (now (a .words)) (now (a .bytes)) (now (a .lines)) ps (now (a .cached)) in
+    λ ps. let l = lists (now (a .memory)) (now (a .bad)) (now (a .words)) (now (a .bytes)) (now (a .lines)) ps (now (a .cached)) in
     let k = made .swap-miss .ensures (now (a .lines)) ps (now (a .cached)) in record {
       same = λ es n. k .same es n
           ∙ sym (none-swap (machineOf l es (a .s) n) (a .a) (a .v) (a .p) _ (clearing .cleared .ensures)
@@ -116,10 +116,10 @@ returns-3 c =
     let search-done = arm .before .before in
     let kinds = search-done .before .before in
     let clearing = kinds .before in
-    let start = clearing .before .before .before .before .before in
+    let start = clearing .before .before .before .before .before .before in
     let a = start .args in
-    λ ps. let l = lists (now (a .memory)) (now (a .words)) (now (a .bytes)) (now (a .lines)) ps (now (a .cached)) in record {
-      same = λ es n. made .store-hit .ensures (now (a .memory)) (now (a .words)) (now (a .bytes)) ps es n
+    λ ps. let l = lists (now (a .memory)) (now (a .bad)) (now (a .words)) (now (a .bytes)) (now (a .lines)) ps (now (a .cached)) in record {
+      same = λ es n. made .store-hit .ensures (now (a .memory)) (now (a .bad)) (now (a .words)) (now (a .bytes)) ps es n
           ∙ sym (found-store (machineOf l es (a .s) n) (a .a) (a .v) (a .p) _ (clearing .cleared .ensures) _
           (sym (kinds .is-swap .ensures) ∙ by-kind .if1 .left) (sym (search-done .find .ensures) ∙ arm .found .given .1));
       bytes-long = start .pre .0 .fits .bytes-long;
@@ -142,9 +142,9 @@ returns-4 c =
     let search-done = arm .before .before in
     let kinds = search-done .before .before in
     let clearing = kinds .before in
-    let start = clearing .before .before .before .before .before in
+    let start = clearing .before .before .before .before .before .before in
     let a = start .args in
-    λ ps. let l = lists (now (a .memory)) (now (a .words)) (now (a .bytes)) (now (a .lines)) ps (now (a .cached)) in
+    λ ps. let l = lists (now (a .memory)) (now (a .bad)) (now (a .words)) (now (a .bytes)) (now (a .lines)) ps (now (a .cached)) in
     let k = made .store-miss .ensures (now (a .lines)) ps (now (a .cached)) in record {
       same = λ es n. k .same es n
           ∙ sym (none-store (machineOf l es (a .s) n) (a .a) (a .v) (a .p) _ (clearing .cleared .ensures)

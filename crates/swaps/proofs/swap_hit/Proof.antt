@@ -24,10 +24,10 @@ returns c =
     let read = written .before .before .before in
     let start = read .before .before .before .before in
     let a = start .args in
-    λ m ws bs ps es n. let l = lists m ws bs (now (a .lines)) ps (now (a .store)) in
+    λ m bad ws bs ps es n. let l = lists m bad ws bs (now (a .lines)) ps (now (a .store)) in
     hit-by (machineOf l es (a .s) n) (a .a) (a .v) (a .i) (steppedOf l es n (read .load-hit .result))
-    (steppedOf (lists m ws bs (written .store-hit .last .0) ps (written .store-hit .last .1 .0)) es n (written .store-hit .result))
-    (read .load-hit .ensures l es n refl) (written .store-hit .ensures m ws bs ps es n)
+    (steppedOf (lists m bad ws bs (written .store-hit .last .0) ps (written .store-hit .last .1 .0)) es n (written .store-hit .result))
+    (read .load-hit .ensures l es n refl) (written .store-hit .ensures m bad ws bs ps es n)
 
 pub swap-hit-spec : {M : Type 1} → statement M
 swap-hit-spec =

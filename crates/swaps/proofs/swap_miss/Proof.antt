@@ -25,9 +25,9 @@ returns c =
     let status = c .before in
     let then1 = status .before .before in
     let bus = then1 .before in
-    let start = bus .before .before .before .before in
+    let start = bus .before .before .before .before .before in
     let a = start .args in
-    λ ls ps st. let l = lists (now (a .memory)) (now (a .words)) (now (a .bytes)) ls ps st in record {
+    λ ls ps st. let l = lists (now (a .memory)) (now (a .bad)) (now (a .words)) (now (a .bytes)) ls ps st in record {
       same = λ es n. let m = machineOf l es (a .s) n in c .faulted .ensures l es n
           ∙ ap (λ (x : Status). reaches.faulted m x (a .p .domain) (a .a .address)) (status .other-status .ensures)
           ∙ sym (miss-faults m (a .a) (a .v) (a .p) (sym (bus .aborts .ensures) ∙ then1 .if1 .taken));
@@ -38,7 +38,7 @@ swap-direct-requires : tie.Need-swap-direct-requires
 swap-direct-requires c κs =
     let else1 = c .before .before .before in
     let bus = else1 .before in
-    let start = bus .before .before .before .before in
+    let start = bus .before .before .before .before .before in
     (start .pre, sym (bus .aborts .ensures) ∙ else1 .if1 .left)
 
 same-length-2 : tie.Need-same-length-2
@@ -52,11 +52,11 @@ returns-2 c =
     let swapped = c .before .before .before .before in
     let else1 = swapped .before .before .before .before in
     let bus = else1 .before in
-    let start = bus .before .before .before .before in
+    let start = bus .before .before .before .before .before in
     let a = start .args in
     λ ls ps st. let k = swapped .swap-direct .ensures ls ps st in record {
       same = λ es n. k .same es n
-          ∙ sym (miss-direct (machineOf (lists (now (a .memory)) (now (a .words)) (now (a .bytes)) ls ps st) es (a .s) n) (a .a) (a .v) (a .p)
+          ∙ sym (miss-direct (machineOf (lists (now (a .memory)) (now (a .bad)) (now (a .words)) (now (a .bytes)) ls ps st) es (a .s) n) (a .a) (a .v) (a .p)
           (sym (bus .aborts .ensures) ∙ else1 .if1 .left));
       bytes-long = k .bytes-long;
     }

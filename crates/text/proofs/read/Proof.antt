@@ -11,39 +11,31 @@ use borrow.Author.Needs.{needs}
 use Rattle.text.proofs.read.Statement.{statement}
 use Rattle.text.proofs.read.Tie as tie
 
--- src/lib.rt:182:8
 length-fits-requires : tie.Need-length-fits-requires
 length-fits-requires c κs = search needs
 
--- src/lib.rt:183:22
 separators-requires : tie.Need-separators-requires
 separators-requires c κs = search needs
 
--- src/lib.rt:185:37
 slice-aggregate-read-numbers : tie.Need-slice-aggregate-read-numbers
 slice-aggregate-read-numbers c = search needs
 
--- src/lib.rt:185:46
 slice-aggregate-read-numbers-2 : tie.Need-slice-aggregate-read-numbers-2
 slice-aggregate-read-numbers-2 c = search needs
 
--- src/lib.rt:185:12
 read-numbers-requires : tie.Need-read-numbers-requires
 read-numbers-requires c κs = let e = c .before .before .separators .ensures in
     (ap length e ∙ separators-long, subst NoZero (sym e) separators-no-zero)
 
--- src/lib.rt:186:31
 slice-aggregate-read-state : tie.Need-slice-aggregate-read-state
 slice-aggregate-read-state c = search needs
 
--- src/lib.rt:186:13
 read-state-requires : tie.Need-read-state-requires
 read-state-requires c κs = let then1 = c .before .before .before .before .before .before .before in
     let after-length = then1 .before in
     let f = fitting (length (now (after-length .before .before .before .args .memory))) (sym (after-length .length-fits .ensures) ∙ then1 .if1 .taken) in
     (search needs, f .short)
 
--- src/lib.rt:186:13
 returns : tie.Need-returns
 returns c = let then2 = c .before .before in
     let after-numbers = then2 .before .before in
@@ -52,15 +44,13 @@ returns c = let then2 = c .before .before in
     let after-length = then1 .before in
     let a = after-length .before .before .before .args in
     let n = read-by _ (now (a .text)) _ _ (after-separators .separators .ensures) (after-numbers .read-numbers .ensures) in
-    λ st. c .read-state .ensures (now (a .memory)) st refl
-    ∙ read-formed (now (a .memory)) st (now (a .text)) (sym (after-length .length-fits .ensures) ∙ then1 .if1 .taken) _ (n .1 (then2 .if2 .taken))
+    λ bad st. c .read-state .ensures (now (a .memory)) bad st refl
+    ∙ read-formed (now (a .memory)) bad st (now (a .text)) (sym (after-length .length-fits .ensures) ∙ then1 .if1 .taken) _ (n .1 (then2 .if2 .taken))
     (sym (n .0) ∙ then2 .if2 .taken)
 
--- src/lib.rt:188:9
 refused-requires : tie.Need-refused-requires
 refused-requires c κs = search needs
 
--- src/lib.rt:188:9
 returns-2 : tie.Need-returns-2
 returns-2 c = let else2 = c .before in
     let after-numbers = else2 .before .before in
@@ -69,20 +59,18 @@ returns-2 c = let else2 = c .before in
     let after-length = then1 .before in
     let a = after-length .before .before .before .args in
     let n = read-by _ (now (a .text)) _ _ (after-separators .separators .ensures) (after-numbers .read-numbers .ensures) in
-    λ st. c .refused .ensures (now (a .memory)) st
-    ∙ read-fourteen (now (a .memory)) st (now (a .text)) (sym (after-length .length-fits .ensures) ∙ then1 .if1 .taken) (sym (n .0) ∙ else2 .if2 .left)
+    λ bad st. c .refused .ensures (now (a .memory)) bad st
+    ∙ read-fourteen (now (a .memory)) bad st (now (a .text)) (sym (after-length .length-fits .ensures) ∙ then1 .if1 .taken) (sym (n .0) ∙ else2 .if2 .left)
 
--- src/lib.rt:190:5
 refused-requires-2 : tie.Need-refused-requires-2
 refused-requires-2 c κs = search needs
 
--- src/lib.rt:179:1
 returns-3 : tie.Need-returns-3
 returns-3 c = let else1 = c .before in
     let after-length = else1 .before in
     let a = after-length .before .before .before .args in
-    λ st. c .refused2 .ensures (now (a .memory)) st
-    ∙ read-one (now (a .memory)) st (now (a .text)) (sym (after-length .length-fits .ensures) ∙ else1 .if1 .left)
+    λ bad st. c .refused2 .ensures (now (a .memory)) bad st
+    ∙ read-one (now (a .memory)) bad st (now (a .text)) (sym (after-length .length-fits .ensures) ∙ else1 .if1 .left)
 
 pub read-spec : {M : Type 1} → statement M
 read-spec =

@@ -12,15 +12,12 @@ use borrow.Author.Needs.{needs}
 use Rattle.text.proofs.read_state.Statement.{statement}
 use Rattle.text.proofs.read_state.Tie as tie
 
--- src/lib.rt:160:9
 restore-requires : tie.Need-restore-requires
 restore-requires c κs = search needs
 
--- src/lib.rt:164:12
 is-sound-requires : tie.Need-is-sound-requires
 is-sound-requires c κs = search needs
 
--- src/lib.rt:166:17
 returns : tie.Need-returns
 returns c = let then2 = c .before .before in
     let after-sound = then2 .before in
@@ -29,15 +26,13 @@ returns c = let then2 = c .before .before in
     let a = after-restore .before .before .args in
     let r = after-restore .restore .ensures in
     let f = r .fit (then1 .if1 .taken) in
-    λ m st e. let q = r .same (then1 .if1 .taken) m st in
-    read-none m st (now (a .ns)) f (ap sound (sym q) ∙ sym (after-sound .is-sound .ensures m st e) ∙ then2 .if2 .taken) _ q
+    λ m bad st e. let q = r .same (then1 .if1 .taken) m bad st in
+    read-none m bad st (now (a .ns)) f (ap sound (sym q) ∙ sym (after-sound .is-sound .ensures m bad st e) ∙ then2 .if2 .taken) _ q
     (ap (λ (x : Machine). x .size) (sym q) ∙ c .if3 .taken ∙ sym e)
 
--- src/lib.rt:172:13
 refused-requires : tie.Need-refused-requires
 refused-requires c κs = search needs
 
--- src/lib.rt:172:13
 returns-2 : tie.Need-returns-2
 returns-2 c = let else3 = c .before in
     let then2 = else3 .before .before in
@@ -47,16 +42,14 @@ returns-2 c = let else3 = c .before in
     let a = after-restore .before .before .args in
     let r = after-restore .restore .ensures in
     let f = r .fit (then1 .if1 .taken) in
-    λ m st e. let q = r .same (then1 .if1 .taken) m st in
-    c .refused .ensures m st
-    ∙ read-four m st (now (a .ns)) f (ap sound (sym q) ∙ sym (after-sound .is-sound .ensures m st e) ∙ then2 .if2 .taken)
+    λ m bad st e. let q = r .same (then1 .if1 .taken) m bad st in
+    c .refused .ensures m bad st
+    ∙ read-four m bad st (now (a .ns)) f (ap sound (sym q) ∙ sym (after-sound .is-sound .ensures m bad st e) ∙ then2 .if2 .taken)
     (λ z. else3 .if3 .left (ap (λ (x : Machine). x .size) q ∙ z ∙ e))
 
--- src/lib.rt:174:9
 refused-requires-2 : tie.Need-refused-requires-2
 refused-requires-2 c κs = search needs
 
--- src/lib.rt:174:9
 returns-3 : tie.Need-returns-3
 returns-3 c = let else2 = c .before in
     let after-sound = else2 .before in
@@ -64,24 +57,23 @@ returns-3 c = let else2 = c .before in
     let after-restore = then1 .before .before .before in
     let a = after-restore .before .before .args in
     let r = after-restore .restore .ensures in
-    λ m st e. let q = r .same (then1 .if1 .taken) m st in
-    c .refused2 .ensures m st
-    ∙ read-three m st (now (a .ns)) (and-false (form .fits (now (a .ns))) (sound (machineWith m st (form .thing (now (a .ns))))) (ap sound
-    (sym q) ∙ sym (after-sound .is-sound .ensures m st e) ∙ else2 .if2 .left))
+    λ m bad st e. let q = r .same (then1 .if1 .taken) m bad st in
+    c .refused2 .ensures m bad st
+    ∙ read-three m bad st (now (a .ns)) (and-false (form .fits (now (a .ns))) (sound (machineWith m bad st (form .thing (now (a .ns))))) (ap sound
+    (sym q) ∙ sym (after-sound .is-sound .ensures m bad st e) ∙ else2 .if2 .left))
 
--- src/lib.rt:176:5
 refused-requires-3 : tie.Need-refused-requires-3
 refused-requires-3 c κs = search needs
 
--- src/lib.rt:156:1
 returns-4 : tie.Need-returns-4
 returns-4 c = let else1 = c .before in
     let after-restore = else1 .before .before .before in
     let start = after-restore .before .before in
     let a = start .args in
     let r = after-restore .restore .ensures in
-    λ m st e. c .refused3 .ensures m st
-    ∙ read-three m st (now (a .ns)) (unfit-unsound m st (now (a .ns)) (let short = start .pre .1 in omega (arith, short, e)) (r .unfit (else1 .if1 .left)))
+    λ m bad st e. c .refused3 .ensures m bad st
+    ∙ read-three m bad st (now (a .ns))
+    (unfit-unsound m bad st (now (a .ns)) (let short = start .pre .1 in omega (arith, short, e)) (r .unfit (else1 .if1 .left)))
 
 pub read-state-spec : {M : Type 1} → statement M
 read-state-spec =

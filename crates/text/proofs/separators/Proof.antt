@@ -7,30 +7,24 @@ use borrow.Author.Needs.{needs}
 use Rattle.text.proofs.separators.Statement.{statement}
 use Rattle.text.proofs.separators.Tie as tie
 
--- src/lib.rt:27:21
 slice-aggregate-end-lines : tie.Need-slice-aggregate-end-lines
 slice-aggregate-end-lines c = search needs
 
--- src/lib.rt:27:5
 end-lines-requires : tie.Need-end-lines-requires
 end-lines-requires c κs = search needs
 
--- src/lib.rt:28:21
 slice-aggregate-end-lines-2 : tie.Need-slice-aggregate-end-lines-2
 slice-aggregate-end-lines-2 c = search needs
 
--- src/lib.rt:28:5
 end-lines-requires-2 : tie.Need-end-lines-requires-2
 end-lines-requires-2 c κs = let e1 = c .before .before .end-lines .ensures in
     let g = commas-on (replicate 3085 44) _ (linesSeparators 1 29) 0 29 commas-start e1 long-1 (omega arith) in
     let long = g .long in
     (omega arith, omega arith, omega arith, g .rest)
 
--- src/lib.rt:29:21
 slice-aggregate-end-lines-3 : tie.Need-slice-aggregate-end-lines-3
 slice-aggregate-end-lines-3 c = search needs
 
--- src/lib.rt:29:5
 end-lines-requires-3 : tie.Need-end-lines-requires-3
 end-lines-requires-3 c κs = let e2 = c .before .before .end-lines2 .ensures in
     let e1 = c .before .before .before .before .before .end-lines .ensures in
@@ -39,11 +33,9 @@ end-lines-requires-3 c κs = let e2 = c .before .before .end-lines2 .ensures in
     let long = g .long in
     (omega arith, omega arith, omega arith, g .rest)
 
--- src/lib.rt:30:21
 slice-aggregate-end-lines-4 : tie.Need-slice-aggregate-end-lines-4
 slice-aggregate-end-lines-4 c = search needs
 
--- src/lib.rt:30:5
 end-lines-requires-4 : tie.Need-end-lines-requires-4
 end-lines-requires-4 c κs = let e3 = c .before .before .end-lines3 .ensures in
     let e2 = c .before .before .before .before .before .end-lines2 .ensures in
@@ -54,7 +46,6 @@ end-lines-requires-4 c κs = let e3 = c .before .before .end-lines3 .ensures in
     let long = g .long in
     (omega arith, omega arith, omega arith, g .rest)
 
--- src/lib.rt:23:1
 returns : tie.Need-returns
 returns c = separators-laid (replicate 3085 44) _ _ _ _ (commas-start .long)
     (c .before .before .before .before .before .before .before .before .before .before .end-lines .ensures)

@@ -12,35 +12,27 @@ use borrow.Author.Needs.{needs}
 use Rattle.text.proofs.store_sound.Statement.{statement}
 use Rattle.text.proofs.store_sound.Tie as tie
 
--- src/lib.rt:62:17
 unpacked-requires : tie.Need-unpacked-requires
 unpacked-requires c κs = search needs
 
--- src/lib.rt:65:9
 slice-aggregate-put-all : tie.Need-slice-aggregate-put-all
 slice-aggregate-put-all c = search needs
 
--- src/lib.rt:70:9
 slice-aggregate-put-all-2 : tie.Need-slice-aggregate-put-all-2
 slice-aggregate-put-all-2 c = search needs
 
--- src/lib.rt:71:9
 slice-aggregate-put-all-3 : tie.Need-slice-aggregate-put-all-3
 slice-aggregate-put-all-3 c = search needs
 
--- src/lib.rt:72:9
 slice-aggregate-put-all-4 : tie.Need-slice-aggregate-put-all-4
 slice-aggregate-put-all-4 c = search needs
 
--- src/lib.rt:73:9
 slice-aggregate-put-all-5 : tie.Need-slice-aggregate-put-all-5
 slice-aggregate-put-all-5 c = search needs
 
--- src/lib.rt:74:9
 slice-aggregate-put-all-6 : tie.Need-slice-aggregate-put-all-6
 slice-aggregate-put-all-6 c = search needs
 
--- src/lib.rt:64:5
 put-all-requires : tie.Need-put-all-requires
 put-all-requires c κs = let after-unpacked = c .before .before .before .before .before .before in
     let start = after-unpacked .before .before .before .before .before .before .before .before in
@@ -56,15 +48,12 @@ put-all-requires c κs = let after-unpacked = c .before .before .before .before 
       start .pre .1,
     )
 
--- src/lib.rt:76:32
 slice-aggregate-text-size : tie.Need-slice-aggregate-text-size
 slice-aggregate-text-size c = search needs
 
--- src/lib.rt:76:9
 text-size-requires : tie.Need-text-size-requires
 text-size-requires c κs = search needs
 
--- src/lib.rt:78:9
 returns : tie.Need-returns
 returns c = let after-size = c .before in
     let after-all = after-size .before .before .before in
@@ -72,35 +61,28 @@ returns c = let after-size = c .before in
     let start = after-unpacked .before .before .before .before .before .before .before .before in
     let a = start .args in
     let e = after-all .put-all .ensures in
-    λ m st. let M = machineIn m st (a .state) (a .cp15) in
+    λ m bad st. let M = machineIn m bad st (a .state) (a .cp15) in
     let q = rw (after-unpacked .unpacked .ensures) at e in
     room-short M (now (a .text)) _ (after-size .text-size .ensures .0 ∙ numbers-size M _ q (search needs)) (c .if1 .taken)
 
--- src/lib.rt:80:18
 separators-requires : tie.Need-separators-requires
 separators-requires c κs = search needs
 
--- src/lib.rt:81:29
 slice-aggregate-put-numbers : tie.Need-slice-aggregate-put-numbers
 slice-aggregate-put-numbers c = search needs
 
--- src/lib.rt:81:38
 slice-aggregate-put-numbers-2 : tie.Need-slice-aggregate-put-numbers-2
 slice-aggregate-put-numbers-2 c = search needs
 
--- src/lib.rt:81:5
 put-numbers-requires : tie.Need-put-numbers-requires
 put-numbers-requires c κs = search needs
 
--- src/lib.rt:82:19
 cast-t39 : tie.Need-cast-t39
 cast-t39 c = search needs
 
--- src/lib.rt:51:1
 same-length : tie.Need-same-length
 same-length c = search needs
 
--- src/lib.rt:51:1
 returns-2 : tie.Need-returns-2
 returns-2 c = let after-put = c .before .before in
     let after-separators = after-put .before .before .before .before in
@@ -111,7 +93,7 @@ returns-2 c = let after-put = c .before .before in
     let start = after-unpacked .before .before .before .before .before .before .before .before in
     let a = start .args in
     let e = after-all .put-all .ensures in
-    λ m st. let M = machineIn m st (a .state) (a .cp15) in
+    λ m bad st. let M = machineIn m bad st (a .state) (a .cp15) in
     let q = rw (after-unpacked .unpacked .ensures) at e in
     room-enough M (now (a .text)) _ _ (after-size .text-size .ensures .0 ∙ numbers-size M _ q (search needs)) (else1 .if1 .left)
     (after-put .put-numbers .ensures ∙ ap (λ (l : List ℕ). over (now (a .text)) 0 l) (numbers-text M _ _ q (after-separators .separators .ensures)))

@@ -151,7 +151,8 @@ module _ {M : Type 1} (𝓤 : URA M) (H : Heap 𝓤) (A : Atoms 𝓤) (W : Given
 
   -- what the contract says of the last state and record, and of the result
   abbrev Says : State → Cp15 → ℕ → Type 0
-  Says s c y = (store : List ℕ) → startedOf (memory .now) store (record { state = s; cp15 = c; refusal = y }) ≡ readBack (memory .now) store (text .now)
+  Says s c y = (bad store : List ℕ) → startedOf (memory .now) bad store (record { state = s; cp15 = c; refusal = y })
+      ≡ readBack (memory .now) bad store (text .now)
 
   -- what the callee is passed, and what it asks
   abbrev args : RefT (List ℕ) × (RefT (List ℕ) × Unit {0})

@@ -168,7 +168,7 @@ module _ {M : Type 1} (𝓤 : URA M) (H : Heap 𝓤) (A : Atoms 𝓤) (W : Given
 
   -- what the contract says of the last text and the result
   abbrev Says : List ℕ → ℕ → Type 0
-  Says text′ y = (store : List ℕ) → storedCode text′ y ≡ storedAs (machineIn (memory .now) store (state .now) (cp15 .now)) (text .now)
+  Says text′ y = (bad store : List ℕ) → storedCode text′ y ≡ storedAs (machineIn (memory .now) bad store (state .now) (cp15 .now)) (text .now)
 
   -- what the callee is passed, and what it asks
   abbrev args : State × (Cp15 × (RefT (List ℕ) × (RefT (List ℕ) × Unit {0})))

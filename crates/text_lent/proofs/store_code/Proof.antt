@@ -16,8 +16,8 @@ same-length : tie.Need-same-length
 same-length c = search needs
 
 returns : tie.Need-returns
-returns c = λ store. rw (c .code .ensures)
-    (ap (λ (d : Stored). storedCode (d .slice) (codeOf (d .answer))) (c .before .before .before .store .ensures store))
+returns c = λ bad store. rw (c .code .ensures)
+    (ap (λ (d : Stored). storedCode (d .slice) (codeOf (d .answer))) (c .before .before .before .store .ensures bad store))
 
 pub store-code-spec : {M : Type 1} → statement M
 store-code-spec = tie.close (tie.spec store-requires code-requires same-length returns)

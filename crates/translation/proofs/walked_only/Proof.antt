@@ -20,16 +20,20 @@ returns : tie.Need-returns
 returns c = let after-walk = c .before in
     let then1 = after-walk .before in
     let after-mmu = then1 .before in
-    let start = after-mmu .before .before in
+    let start = after-mmu .before .before .before in
     let a = start .args in
-    let e = walked-set (a .r) (physical (now (a .memory))) (a .va) (sym (after-mmu .mmu .ensures) ∙ then1 .if1 .taken) in
+    let e = walked-set (a .r) (physical (now (a .memory)) (now (a .bad))) (a .va) (sym (after-mmu .mmu .ensures) ∙ then1 .if1 .taken) in
     record { same = c .of-walk .ensures .same ∙ ap spec.ofWalk (after-walk .walk .ensures .same) ∙ sym e; ranged = c .of-walk .ensures .ranged }
 
 returns-2 : tie.Need-returns-2
 returns-2 c = let after-mmu = c .before in
-    let start = after-mmu .before .before in
+    let start = after-mmu .before .before .before in
     let a = start .args in
-    record { same = sym (walked-clear (a .r) (physical (now (a .memory))) (a .va) (sym (after-mmu .mmu .ensures) ∙ c .if1 .left)); ranged = search needs }
+    record {
+      same = sym (walked-clear (a .r) (physical (now (a .memory)) (now (a .bad))) (a .va)
+          (sym (after-mmu .mmu .ensures) ∙ c .if1 .left));
+      ranged = search needs;
+    }
 
 pub walked-only-spec : {M : Type 1} → statement M
 walked-only-spec =

@@ -7,34 +7,28 @@ use Rattle.step.specs.Run.{run}
 use Rattle.uses.proofs.run_from_start.Statement.{statement}
 use Rattle.uses.proofs.run_from_start.Tie as tie
 
--- src/lib.rt:13:9
 start-requires : tie.Need-start-requires
 start-requires c κs = search needs
 
--- src/lib.rt:16:5
 run-requires : tie.Need-run-requires
 run-requires c κs = search needs
 
--- src/lib.rt:8:1
 same-length : tie.Need-same-length
 same-length c = search needs
 
--- src/lib.rt:8:1
 same-length-2 : tie.Need-same-length-2
 same-length-2 c = search needs
 
--- src/lib.rt:8:1
 same-length-3 : tie.Need-same-length-3
 same-length-3 c = search needs
 
--- src/lib.rt:8:1
 returns : tie.Need-returns
 returns c =
     let after-run = c .before .before .before .before .before .before in
     let after-start = after-run .before .before .before .before .before .before in
-    let start = after-start .before .before .before .before .before .before .before in
+    let start = after-start .before .before .before .before .before .before .before .before in
     let a = start .args in
-    let e = ap (λ (x : Started). x .machine) (after-start .start .ensures) in
+    let e = ap (λ (x : Started). x .machine) (after-start .start .ensures (now (a .bad))) in
     after-run .run .ensures ∙ ap (λ (m : Machine). run m (now (a .calls)) (now (a .answers))) e
 
 pub run-from-start-spec : {M : Type 1} → statement M

@@ -3,14 +3,14 @@ use borrow.Author.Needs.{needs}
 use Rattle.walk.proofs.second_level.Statement.{statement}
 use Rattle.walk.proofs.second_level.Tie as tie
 
-mul-t9 : tie.Need-mul-t9
-mul-t9 c = search needs
+mul-t10 : tie.Need-mul-t10
+mul-t10 c = search needs
 
-mul-t12 : tie.Need-mul-t12
-mul-t12 c = search needs
+mul-t13 : tie.Need-mul-t13
+mul-t13 c = search needs
 
-add-t13 : tie.Need-add-t13
-add-t13 c = search needs
+add-t14 : tie.Need-add-t14
+add-t14 c = search needs
 
 descriptor-of-requires : tie.Need-descriptor-of-requires
 descriptor-of-requires c κs = search needs
@@ -39,9 +39,9 @@ pub second-level-spec : {M : Type 1} → statement M
 second-level-spec =
     tie.close
     (tie.spec
-    mul-t9
-    mul-t12
-    add-t13
+    mul-t10
+    mul-t13
+    add-t14
     descriptor-of-requires
     enum-known-d
     level-two-requires
