@@ -1,10 +1,12 @@
 //! An access, step by step, on the library machine.
 
 use crate::answers::{Abort, Answer, Fault, Status};
+use crate::bus::Word;
 use crate::cache::{half_of, store_index};
 use crate::calls::{Access, Kind};
 use crate::coverage::{Event, Watch};
 use crate::library::Lent;
+use crate::misses::{load_miss, store_miss, swap_miss};
 use crate::registers::{A, C, M, R, S, W};
 use crate::rights;
 use crate::state::{PlainRegisters, TlbEntry};
@@ -56,12 +58,12 @@ impl Place {
         registers.has(M) && registers.has(W) && (self.cacheable || self.bufferable)
     }
 
-    /// A line fill is outside memory.
+    /// A line fill aborts at or before the wanted word.
     pub fn fill_abort(&self) -> Abort {
         self.abort(Status::FillSection, Status::FillPage)
     }
 
-    /// Any other access is outside memory.
+    /// Any other access aborts.
     pub fn other_abort(&self) -> Abort {
         self.abort(Status::OtherSection, Status::OtherPage)
     }
@@ -150,13 +152,22 @@ fn reach<T: Watch>(lent: &mut Lent, access: &Access, watch: &mut T) -> Result<u3
     }
     let place = translate(lent, access, address, watch)?;
     if let Some(index) = lent.state.cache.find(address) {
+        if lent.word(place.physical) == Word::Bad {
+            watch.note(Event::HitBad);
+        }
         return Ok(hit(lent, index, access, address, watch));
     }
-    match access.kind {
+    let reached = match access.kind {
         Kind::Store(value) => store_miss(lent, access, &place, value, watch),
         Kind::Swap(value) => swap_miss(lent, access, &place, value, watch),
         _ => load_miss(lent, access, address, &place, watch),
-    }
+    };
+    reached.inspect_err(|abort| {
+        // inside memory bad words alone abort
+        if lent.word(place.physical) != Word::Outside {
+            watch.note_bad(access, abort.status);
+        }
+    })
 }
 
 /// Translation and rights. A mapping goes to the TLB before any rights are checked.
@@ -176,25 +187,38 @@ fn translate<T: Watch>(
             watch.note(Event::TlbHit);
             index
         }
-        None => walk_into_tlb(lent, address, watch)?,
+        None => walk_into_tlb(lent, access, address, watch)?,
     };
     let entry = &lent.state.tlb[index];
     let registers = &lent.registers.plain;
-    check_rights(registers, entry, address, access).inspect_err(|_| {
+    check_rights(registers, entry, address, access).inspect_err(|abort| {
         let kind = Kind::Load;
         let load = Access { kind, ..*access };
         if access.is_swap() && check_rights(registers, entry, address, &load).is_ok() {
             watch.note(Event::SwapWhereLoadsAlone);
+        }
+        if lent.word(entry.physical(address)) == Word::Bad {
+            watch.note_bad(access, abort.status);
         }
     })?;
     Ok(Place::mapped(entry, address))
 }
 
 /// A TLB miss: counted even if the walk then faults. Answers the new entry's index.
-fn walk_into_tlb<T: Watch>(lent: &mut Lent, address: u32, watch: &mut T) -> Result<usize, Abort> {
+fn walk_into_tlb<T: Watch>(
+    lent: &mut Lent,
+    access: &Access,
+    address: u32,
+    watch: &mut T,
+) -> Result<usize, Abort> {
     watch.note(Event::TlbMiss);
     lent.state.counts.tlb_misses += 1;
-    let entry = walk(lent.memory, lent.registers.plain.table_base, address).found?;
+    let walk = walk(lent.board.bus(), lent.registers.plain.table_base, address);
+    let entry = walk.found.inspect_err(|abort| {
+        if matches!(walk.aborted, Some(at) if lent.word(at) == Word::Bad) {
+            watch.note_bad(access, abort.status);
+        }
+    })?;
     watch.note(match entry.size {
         0 => Event::SectionFound,
         1 => Event::LargePageFound,
@@ -237,110 +261,4 @@ fn hit<T: Watch>(
         lent.state.cache.lines[index].dirty[half_of(address)] = 1;
     }
     held
-}
-
-/// A load that misses fills a line, or reads memory past the cache.
-fn load_miss<T: Watch>(
-    lent: &mut Lent,
-    access: &Access,
-    address: u32,
-    place: &Place,
-    watch: &mut T,
-) -> Result<u32, Abort> {
-    let inside = lent.has(place.physical);
-    if place.fills(&lent.registers.plain) {
-        if !inside {
-            return Err(place.fill_abort());
-        }
-        let index = lent.cached().fill(address, place.physical >> 5, watch);
-        let at = store_index(index, address);
-        return Ok(words::read(lent.store, at, access.width));
-    }
-    if !inside {
-        return Err(place.other_abort());
-    }
-    watch.note(Event::UncachedLoad);
-    let buffer = &mut lent.state.buffer;
-    if buffer.overlaps_access(place.physical, access.width) {
-        watch.note(Event::DrainBeforeLoad);
-        buffer.drain(lent.memory);
-    }
-    Ok(words::read(
-        lent.memory,
-        place.physical as usize,
-        access.width,
-    ))
-}
-
-/// A store that misses is buffered, dropped, or drains the buffer and writes.
-fn store_miss<T: Watch>(
-    lent: &mut Lent,
-    access: &Access,
-    place: &Place,
-    value: u32,
-    watch: &mut T,
-) -> Result<u32, Abort> {
-    let inside = lent.has(place.physical);
-    let buffered = place.buffers(&lent.registers.plain);
-    let buffer = &mut lent.state.buffer;
-    match (buffered, inside) {
-        (true, true) => {
-            watch.note(Event::BufferedStore);
-            buffer.store(lent.memory, place.physical, access.width, value, watch);
-        }
-        (true, false) => watch.note(Event::DroppedStore),
-        (false, false) => return Err(place.other_abort()),
-        (false, true) => {
-            watch.note(Event::DirectStore);
-            if buffer.entries > 0 {
-                watch.note(Event::DrainBeforeStore);
-            }
-            buffer.drain(lent.memory);
-            words::write(lent.memory, place.physical as usize, access.width, value);
-        }
-    }
-    Ok(0)
-}
-
-/// A swap that misses drains the buffer, reads memory, then writes it. A read outside memory is found
-/// before the drain and followed by no write.
-fn swap_miss<T: Watch>(
-    lent: &mut Lent,
-    access: &Access,
-    place: &Place,
-    value: u32,
-    watch: &mut T,
-) -> Result<u32, Abort> {
-    note_swap_miss(lent, access, place, watch);
-    if !lent.has(place.physical) {
-        return Err(place.other_abort());
-    }
-    lent.state.buffer.drain(lent.memory);
-    let at = place.physical as usize;
-    let old = words::read(lent.memory, at, access.width);
-    words::write(lent.memory, at, access.width, value);
-    Ok(old)
-}
-
-/// Notes what a load and a store do at the place of a swap that misses, and what the buffer holds.
-fn note_swap_miss<T: Watch>(lent: &Lent, access: &Access, place: &Place, watch: &mut T) {
-    let (registers, buffer) = (&lent.registers.plain, &lent.state.buffer);
-    let (fills, buffers) = (place.fills(registers), place.buffers(registers));
-    let inside = lent.has(place.physical);
-    watch.note(match (fills, buffers, inside) {
-        (true, _, true) => Event::SwapWhereLoadsFill,
-        (false, true, true) => Event::SwapWhereStoresBuffer,
-        (false, false, true) => Event::SwapWhereNeither,
-        (true, _, false) => Event::SwapOutsideWhereLoadsFill,
-        (false, true, false) => Event::SwapOutsideWhereStoresBuffer,
-        (false, false, false) => Event::SwapOutsideWhereNeither,
-    });
-    match (buffer.entries > 0, inside) {
-        (true, true) => watch.note(Event::DrainBeforeSwap),
-        (true, false) => watch.note(Event::NoDrainBeforeSwapOutside),
-        (false, _) => {}
-    }
-    if inside && buffer.overlaps_access(place.physical, access.width) {
-        watch.note(Event::DrainOfSwapped);
-    }
 }

@@ -61,7 +61,7 @@ impl Fault {
 
 #[derive(Clone, Copy, Debug, PartialEq, Eq)]
 pub enum Answer {
-    /// Refusal 1 to 12.
+    /// Refusal 1 to 12, or 16.
     Refused(u32),
     /// A load's or a CP15 read's value, a swap's old value; 0 for a served store or write.
     Value(u32),

@@ -1,7 +1,11 @@
 //! The write buffer: join, take, the oldest leaving, drain, overlap.
 
+use crate::bus::{Board, WORD_BYTES};
 use crate::coverage::{Event, Watch};
 use crate::state::{Buffer, Slot, BLOCK_BYTES, BUFFER_ENTRIES};
+
+/// The words of a block.
+const BLOCK_WORDS: usize = BLOCK_BYTES / WORD_BYTES;
 
 /// The mask of `width` bytes at a physical address, in its block.
 #[inline]
@@ -10,16 +14,24 @@ pub fn access_mask(physical: u32, width: u32) -> u32 {
 }
 
 impl Slot {
-    /// Writes the masked bytes to memory.
-    fn leave(&self, memory: &mut [u8]) {
+    /// Writes the masked bytes of good words to memory; those of bad words are dropped.
+    fn leave<T: Watch>(&self, board: &mut Board, watch: &mut T) {
         let at = self.block as usize * BLOCK_BYTES;
-        let block = &mut memory[at..at + BLOCK_BYTES];
-        if self.mask == 0xFFFF {
+        let block = &mut board.memory[at..at + BLOCK_BYTES];
+        let first = self.block as usize * BLOCK_WORDS;
+        let dropped = dropped_mask(&board.bad[first..first + BLOCK_WORDS]);
+        let (written, lost) = (self.mask & !dropped, self.mask & dropped);
+        watch.note(match (written != 0, lost != 0) {
+            (_, false) => Event::LeavesGood,
+            (true, true) => Event::LeavesMixed,
+            (false, true) => Event::LeavesBad,
+        });
+        if written == 0xFFFF {
             block.copy_from_slice(&self.bytes);
             return;
         }
         for (i, byte) in block.iter_mut().enumerate() {
-            if self.mask >> i & 1 == 1 {
+            if written >> i & 1 == 1 {
                 *byte = self.bytes[i];
             }
         }
@@ -34,16 +46,24 @@ impl Slot {
     }
 }
 
+/// The mask of the bytes of a block's bad words.
+#[inline]
+fn dropped_mask(words: &[u8]) -> u32 {
+    let bits = words.iter().enumerate();
+    bits.map(|(i, word)| (*word as u32 * 0xF) << (WORD_BYTES * i))
+        .sum()
+}
+
 impl Buffer {
     fn in_use(&self) -> &[Slot] {
         &self.slots[..self.entries as usize]
     }
 
     /// Takes a new entry; if all eight are taken, the oldest leaves first and the others close up.
-    fn take<T: Watch>(&mut self, memory: &mut [u8], slot: Slot, watch: &mut T) {
+    fn take<T: Watch>(&mut self, board: &mut Board, slot: Slot, watch: &mut T) {
         if self.entries as usize == BUFFER_ENTRIES {
             watch.note(Event::OldestLeaves);
-            self.slots[0].leave(memory);
+            self.slots[0].leave(board, watch);
             self.slots.copy_within(1.., 0);
             self.entries -= 1;
         }
@@ -54,7 +74,7 @@ impl Buffer {
     /// A store joins the newest entry of its block, else takes a new one.
     pub fn store<T: Watch>(
         &mut self,
-        memory: &mut [u8],
+        board: &mut Board,
         physical: u32,
         width: u32,
         value: u32,
@@ -77,7 +97,7 @@ impl Buffer {
                     ..Slot::EMPTY
                 };
                 slot.join(physical, width, value);
-                self.take(memory, slot, watch);
+                self.take(board, slot, watch);
             }
         }
     }
@@ -85,7 +105,7 @@ impl Buffer {
     /// A half sent out always takes a new entry.
     pub fn send_half<T: Watch>(
         &mut self,
-        memory: &mut [u8],
+        board: &mut Board,
         block: u32,
         bytes: [u8; BLOCK_BYTES],
         watch: &mut T,
@@ -96,13 +116,13 @@ impl Buffer {
             mask: 0xFFFF,
             bytes,
         };
-        self.take(memory, slot, watch);
+        self.take(board, slot, watch);
     }
 
     /// Every entry leaves, oldest first; the emptied slots become zeros.
-    pub fn drain(&mut self, memory: &mut [u8]) {
+    pub fn drain<T: Watch>(&mut self, board: &mut Board, watch: &mut T) {
         for i in 0..self.entries as usize {
-            self.slots[i].leave(memory);
+            self.slots[i].leave(board, watch);
             self.slots[i] = Slot::EMPTY;
         }
         self.entries = 0;

@@ -1,5 +1,6 @@
 //! The Dcache: search, give way, fill, clean, flush. Lines are matched by virtual tag.
 
+use crate::bus::Board;
 use crate::coverage::{Event, Watch};
 use crate::state::{
     Buffer, Counts, Directory, Line, BLOCK_BYTES, LINES, LINE_BYTES, STORE_BYTES, WAYS,
@@ -34,6 +35,13 @@ impl Directory {
             .map(|way| first + way)
     }
 
+    /// The line that gives way if the line of a virtual address is filled now.
+    #[inline]
+    pub fn victim(&self, address: u32) -> &Line {
+        let set = set_of(address);
+        &self.lines[set * WAYS + self.pointers[set] as usize]
+    }
+
     /// Empties every line; pointers and store bytes stay.
     pub fn flush(&mut self) {
         self.lines = [Line::EMPTY; LINES];
@@ -47,15 +55,15 @@ pub fn store_index(line: usize, address: u32) -> usize {
 }
 
 /// The parts that a line's departure or arrival touches.
-pub struct Cached<'a> {
+pub struct Cached<'a, 'b> {
     pub cache: &'a mut Directory,
     pub buffer: &'a mut Buffer,
     pub counts: &'a mut Counts,
-    pub memory: &'a mut [u8],
+    pub board: &'a mut Board<'b>,
     pub store: &'a mut [u8; STORE_BYTES],
 }
 
-impl Cached<'_> {
+impl Cached<'_, '_> {
     /// Sends a line's dirty halves to the buffer, low half first, and clears their dirty bits.
     pub fn send_dirty_halves<T: Watch>(&mut self, index: usize, watch: &mut T) {
         for half in 0..2 {
@@ -67,26 +75,35 @@ impl Cached<'_> {
             let at = index * LINE_BYTES + half * BLOCK_BYTES;
             let bytes = self.store[at..at + BLOCK_BYTES].try_into().unwrap();
             self.buffer
-                .send_half(self.memory, line.frame * 2 + half as u32, bytes, watch);
+                .send_half(self.board, line.frame * 2 + half as u32, bytes, watch);
             self.counts.halves += 1;
         }
     }
 
-    /// Fills the line of a virtual address from a frame inside memory. Answers its index.
-    pub fn fill<T: Watch>(&mut self, address: u32, frame: u32, watch: &mut T) -> usize {
-        let set = set_of(address);
-        let pointer = &mut self.cache.pointers[set];
-        let index = set * WAYS + *pointer as usize;
-        *pointer = (*pointer + 1) % WAYS as u32;
-        watch.note(victim_event(&self.cache.lines[index]));
-        self.send_dirty_halves(index, watch);
-        if self.buffer.overlaps_line(frame) {
+    /// Fills the line of a virtual address from a frame. Answers its index, or the first word of the line
+    /// that aborts, 0 to 7; then the place stays empty, and the store keeps its bytes.
+    pub fn fill<T: Watch>(
+        &mut self,
+        address: u32,
+        frame: u32,
+        watch: &mut T,
+    ) -> Result<usize, u32> {
+        let index = self.give_way(set_of(address), watch);
+        let drains = self.buffer.overlaps_line(frame);
+        if drains {
             watch.note(Event::DrainBeforeFill);
-            self.buffer.drain(self.memory);
+            self.buffer.drain(self.board, watch);
+        }
+        if let Some(word) = self.board.bus().first_abort(frame) {
+            if drains {
+                watch.note(Event::DrainBeforeAbortedFill);
+            }
+            return Err(word);
         }
         let from = frame as usize * LINE_BYTES;
         let to = index * LINE_BYTES;
-        self.store[to..to + LINE_BYTES].copy_from_slice(&self.memory[from..from + LINE_BYTES]);
+        let bytes = &self.board.memory[from..from + LINE_BYTES];
+        self.store[to..to + LINE_BYTES].copy_from_slice(bytes);
         self.cache.lines[index] = Line {
             tag: tag_of(address),
             frame,
@@ -95,6 +112,17 @@ impl Cached<'_> {
         };
         self.counts.fills += 1;
         watch.note(Event::Fill);
+        Ok(index)
+    }
+
+    /// The line at the set's pointer gives way, and the pointer steps. Answers the index of the empty place.
+    fn give_way<T: Watch>(&mut self, set: usize, watch: &mut T) -> usize {
+        let pointer = &mut self.cache.pointers[set];
+        let index = set * WAYS + *pointer as usize;
+        *pointer = (*pointer + 1) % WAYS as u32;
+        watch.note(victim_event(&self.cache.lines[index]));
+        self.send_dirty_halves(index, watch);
+        self.cache.lines[index] = Line::EMPTY;
         index
     }
 }

@@ -1,12 +1,16 @@
-//! What happened in runs: events of the library machine, statuses, refusals, signs; those of swaps also alone.
+//! What happened in runs: events of the library machine, statuses, refusals, signs; those of swaps, and
+//! statuses at bad words, also alone.
 
 use crate::answers::{Answer, Status, STATUSES};
-use crate::calls::Call;
+use crate::calls::{Access, Call, Kind};
+use crate::refusals::BAD_MAP;
 use std::fmt;
 
 /// Takes note of the library machine's events. `Unwatched` costs nothing.
 pub trait Watch {
     fn note(&mut self, event: Event);
+    /// An access that faults with this status where its word, or one that its walk or fill reads, is bad.
+    fn note_bad(&mut self, access: &Access, status: Status);
     fn note_answer(&mut self, call: &Call, answer: &Answer);
 }
 
@@ -15,6 +19,8 @@ pub struct Unwatched;
 impl Watch for Unwatched {
     #[inline]
     fn note(&mut self, _: Event) {}
+    #[inline]
+    fn note_bad(&mut self, _: &Access, _: Status) {}
     #[inline]
     fn note_answer(&mut self, _: &Call, _: &Answer) {}
 }
@@ -47,34 +53,55 @@ events! {
     HitStore "hit store",
     HitSwap "hit swap",
     HitWhileDisabled "hit with the Dcache disabled",
+    HitBad "hit of a bad word",
     Fill "fill",
+    FillBadBefore "fill aborted before the wanted word",
+    FillBadAt "fill aborted at the wanted word",
+    FillBadBehind "fill aborted behind the wanted word, the load served",
+    FillOutside "fill outside memory",
     VictimEmpty "victim empty",
     VictimClean "victim clean",
     VictimHalfDirty "victim with one dirty half",
     VictimDirty "victim with two dirty halves",
+    BadVictimEmpty "fill aborted by a bad word, victim empty",
+    BadVictimClean "fill aborted by a bad word, victim clean",
+    BadVictimDirty "fill aborted by a bad word, victim dirty",
+    OutsideVictimEmpty "fill outside memory, victim empty",
+    OutsideVictimClean "fill outside memory, victim clean",
+    OutsideVictimDirty "fill outside memory, victim dirty",
     HalfSent "half sent out (new buffer entry)",
     UncachedLoad "uncached load",
     BufferedStore "buffered store",
+    BufferedStoreBad "buffered store to a bad word",
     StoreJoins "store joins an entry",
     StoreJoinsFull "store joins an entry of a full buffer",
     StoreTakesEntry "store takes a new buffer entry",
     OldestLeaves "oldest entry leaves a full buffer",
+    LeavesGood "entry with bytes of good words leaves",
+    LeavesMixed "entry with bytes of good and bad words leaves",
+    LeavesBad "entry with bytes of bad words leaves",
     DroppedStore "dropped store",
     DirectStore "direct store",
     DrainOfEntries "drain with entries",
     DrainOfNothing "drain without entries",
     DrainBeforeFill "drain before a fill",
+    DrainBeforeAbortedFill "drain before a fill aborted by a bad word",
     DrainBeforeLoad "drain before an uncached load",
+    NoDrainBeforeLoadAbort "entries stay at an uncached load that aborts",
     DrainBeforeStore "drain with entries before a direct store",
+    NoDrainBeforeStoreAbort "entries stay at a direct store that aborts",
     SwapWhereLoadsFill "swap miss where a load fills",
     SwapWhereStoresBuffer "swap miss where a load fills nothing and a store is buffered",
     SwapWhereNeither "swap miss where neither",
     SwapOutsideWhereLoadsFill "swap outside memory where a load fills",
     SwapOutsideWhereStoresBuffer "swap outside memory where a load fills nothing and a store is dropped",
     SwapOutsideWhereNeither "swap outside memory where neither",
+    SwapBadWhereLoadsFill "swap of a bad word where a load fills",
+    SwapBadWhereStoresBuffer "swap of a bad word where a load fills nothing and a store is buffered",
+    SwapBadWhereNeither "swap of a bad word where neither",
     DrainBeforeSwap "drain with entries before a swap",
     DrainOfSwapped "drain of bytes that a swap reads",
-    NoDrainBeforeSwapOutside "entries stay at a swap outside memory",
+    NoDrainBeforeSwapAbort "entries stay at a swap that aborts",
     SwapLowBitsCleared "swap with low bits cleared",
     SwapWhereLoadsAlone "swap denied where a load is allowed",
     SwapOfHalfword "swap of width 2 refused by 6",
@@ -93,7 +120,7 @@ events! {
 #[derive(Clone, Debug, Default, PartialEq, Eq)]
 struct Unserved {
     statuses: [u64; 16],
-    refusals: [u64; 13],
+    refusals: [u64; BAD_MAP as usize + 1],
 }
 
 impl Unserved {
@@ -113,18 +140,23 @@ impl Unserved {
         }
     }
 
-    /// A row for each of the statuses and for refusals 1 to `last`; `of` stands before their names.
-    fn rows(&self, of: &str, statuses: &[Status], last: usize) -> Vec<(String, u64)> {
-        let mut rows = Vec::new();
-        for status in statuses {
-            let number = *status as usize;
-            rows.push((format!("{of}fault status {number}"), self.statuses[number]));
-        }
-        for number in 1..=last {
-            rows.push((format!("{of}refusal {number}"), self.refusals[number]));
+    /// A row for each of the statuses, for refusals 1 to `last` and for 16; `of` stands before their names.
+    fn rows(&self, of: &str, statuses: &[Status], last: u32) -> Vec<(String, u64)> {
+        let mut rows = status_rows(of, statuses, &self.statuses);
+        for number in (1..=last).chain([BAD_MAP]) {
+            let count = self.refusals[number as usize];
+            rows.push((format!("{of}refusal {number}"), count));
         }
         rows
     }
+}
+
+fn status_rows(of: &str, statuses: &[Status], counts: &[u64; 16]) -> Vec<(String, u64)> {
+    let row = |status: &Status| {
+        let number = *status as usize;
+        (format!("{of}fault status {number}"), counts[number])
+    };
+    statuses.iter().map(row).collect()
 }
 
 /// Counts of events and answers.
@@ -134,6 +166,8 @@ pub struct Coverage {
     /// Of all calls, and of swaps.
     unserved: Unserved,
     unserved_swaps: Unserved,
+    /// Statuses at bad words, of loads, stores and swaps.
+    bad: [[u64; 16]; 3],
     signed_negative: u64,
     signed_not_negative: u64,
 }
@@ -141,6 +175,15 @@ pub struct Coverage {
 impl Watch for Coverage {
     fn note(&mut self, event: Event) {
         self.events[event as usize] += 1;
+    }
+
+    fn note_bad(&mut self, access: &Access, status: Status) {
+        let kind = match access.kind {
+            Kind::Load | Kind::SignedLoad => 0,
+            Kind::Store(_) => 1,
+            Kind::Swap(_) => 2,
+        };
+        self.bad[kind][status as usize] += 1;
     }
 
     fn note_answer(&mut self, call: &Call, answer: &Answer) {
@@ -165,18 +208,28 @@ impl Default for Coverage {
             events: [0; EVENTS.len()],
             unserved: Unserved::default(),
             unserved_swaps: Unserved::default(),
+            bad: Default::default(),
             signed_negative: 0,
             signed_not_negative: 0,
         }
     }
 }
 
-/// The statuses that a swap can have: all but those of a fill.
-fn swap_statuses() -> Vec<Status> {
-    let fill = [Status::FillSection, Status::FillPage];
+/// The statuses but some.
+fn statuses_but(left_out: &[Status]) -> Vec<Status> {
     let statuses = STATUSES.into_iter();
-    statuses.filter(|status| !fill.contains(status)).collect()
+    let kept = statuses.filter(|status| !left_out.contains(status));
+    kept.collect()
 }
+
+/// A store and a swap have no status of a fill.
+const FILL: [Status; 2] = [Status::FillSection, Status::FillPage];
+/// Alignment is asked before there is a word that could be bad; where translation fails there is none.
+const NO_WORD: [Status; 3] = [
+    Status::Alignment,
+    Status::TranslationSection,
+    Status::TranslationPage,
+];
 
 impl Coverage {
     /// Every row of the table: name and count.
@@ -188,7 +241,14 @@ impl Coverage {
         rows.push(("signed load, negative".into(), self.signed_negative));
         rows.push(("signed load, not negative".into(), self.signed_not_negative));
         rows.extend(self.unserved.rows("", &STATUSES, 12));
-        rows.extend(self.unserved_swaps.rows("swap, ", &swap_statuses(), 7));
+        rows.extend(self.unserved_swaps.rows("swap, ", &statuses_but(&FILL), 7));
+        let loads = statuses_but(&NO_WORD);
+        let others = statuses_but(&[&FILL[..], &NO_WORD].concat());
+        let kinds = [("load", &loads), ("store", &others), ("swap", &others)];
+        for ((kind, statuses), counts) in kinds.iter().zip(&self.bad) {
+            let of = format!("{kind} at a bad word, ");
+            rows.extend(status_rows(&of, statuses, counts));
+        }
         rows
     }
 
@@ -204,6 +264,10 @@ impl Coverage {
         }
         self.unserved.add(&other.unserved);
         self.unserved_swaps.add(&other.unserved_swaps);
+        let bad = self.bad.as_flattened_mut().iter_mut();
+        for (sum, count) in bad.zip(other.bad.as_flattened()) {
+            *sum += count;
+        }
         self.signed_negative += other.signed_negative;
         self.signed_not_negative += other.signed_not_negative;
     }

@@ -84,5 +84,5 @@ fn drain<T: Watch>(lent: &mut Lent, watch: &mut T) {
     } else {
         Event::DrainOfNothing
     });
-    lent.state.buffer.drain(lent.memory);
+    lent.state.buffer.drain(&mut lent.board, watch);
 }

@@ -9,24 +9,26 @@
 //! | The lent things | `state`, `machine`, `words` |
 //! | Refused calls | `refusals`, `soundness` |
 //! | Registers | `registers`, `cp15` |
-//! | An access, step by step | `access`, `walk`, `tlb`, `rights`, `cache`, `buffer` |
+//! | An access, step by step | `access`, `misses`, `walk`, `tlb`, `rights`, `cache`, `buffer` |
 //! | A look | `library` |
 //! | Rules for a run, the plain machine | `plain`, `rules`, `term3` |
 //!
 //! `library` holds the entry points: `start`, `call`, `run`, `look`. `replay` replays traces kept as text
 //! (document 02, One). The swap (document 02, Two) is a data access. `text` stores a state as text and
-//! reads it back (document 02, Four).
+//! reads it back (document 02, Four). `bus` says which words abort (document 02, Five).
 //! `random` makes runs and states; `coverage` counts what happened in them.
 
 pub mod access;
 pub mod answers;
 pub mod buffer;
+pub mod bus;
 pub mod cache;
 pub mod calls;
 pub mod coverage;
 pub mod cp15;
 pub mod library;
 pub mod machine;
+pub mod misses;
 pub mod plain;
 pub mod random;
 pub mod refusals;

@@ -1,39 +1,54 @@
 //! The library machine's entry points: start, call, run, look.
 
-use crate::access;
+use crate::access::{self, Place};
 use crate::answers::Answer;
+use crate::bus::{Board, Bus, Word};
 use crate::cache::Cached;
-use crate::calls::{Call, FIELDS};
+use crate::calls::{Access, Call, FIELDS};
 use crate::coverage::{Unwatched, Watch};
 use crate::cp15;
 use crate::refusals;
 use crate::registers::{operation, M};
 use crate::state::{Registers, State, LINE_BYTES, STORE_BYTES};
 use crate::walk::walk;
+use crate::words;
 
-/// What a step works on: everything is lent and changed in place.
+/// What a step works on: everything is lent and, but for the map of bad words, changed in place.
 pub struct Lent<'a> {
     pub state: &'a mut State,
     pub registers: &'a mut Registers,
-    pub memory: &'a mut [u8],
+    pub board: Board<'a>,
     pub store: &'a mut [u8; STORE_BYTES],
 }
 
-impl Lent<'_> {
-    /// Is the physical address inside memory?
+impl<'a> Lent<'a> {
+    /// What the bus makes of the word of a physical address.
     #[inline]
-    pub fn has(&self, physical: u32) -> bool {
-        (physical as usize) < self.memory.len()
+    pub fn word(&self, physical: u32) -> Word {
+        self.board.bus().word(physical)
+    }
+
+    /// What an access reads in memory at a place inside.
+    #[inline]
+    pub fn read_memory(&self, place: &Place, access: &Access) -> u32 {
+        words::read(self.board.memory, place.physical as usize, access.width)
+    }
+
+    /// Writes what an access stores in memory at a place inside.
+    #[inline]
+    pub fn write_memory(&mut self, place: &Place, access: &Access, value: u32) {
+        let at = place.physical as usize;
+        words::write(self.board.memory, at, access.width, value);
     }
 
     /// The parts that the cache's lines need.
     #[inline]
-    pub fn cached(&mut self) -> Cached<'_> {
+    pub fn cached(&mut self) -> Cached<'_, 'a> {
         Cached {
             cache: &mut self.state.cache,
             buffer: &mut self.state.buffer,
             counts: &mut self.state.counts,
-            memory: self.memory,
+            board: &mut self.board,
             store: self.store,
         }
     }
@@ -60,15 +75,16 @@ pub fn start(memory: &[u8], store: &[u8]) -> Started {
     }
 }
 
-/// One call, with refusals 1 to 12 tested.
+/// One call, with refusals 1 to 12 and 16 tested.
 pub fn call(
     state: &mut State,
     registers: &mut Registers,
     memory: &mut [u8],
+    bad: &[u8],
     store: &mut [u8],
     call: &Call,
 ) -> Answer {
-    call_watched(state, registers, memory, store, call, &mut Unwatched)
+    call_watched(state, registers, memory, bad, store, call, &mut Unwatched)
 }
 
 /// As `call`, with its events noted.
@@ -76,23 +92,24 @@ pub fn call_watched<T: Watch>(
     state: &mut State,
     registers: &mut Registers,
     memory: &mut [u8],
+    bad: &[u8],
     store: &mut [u8],
     call: &Call,
     watch: &mut T,
 ) -> Answer {
-    if let Some(number) = refusals::of_lent(state, registers, memory.len(), store.len()) {
+    if let Some(number) = refusals::of_lent(state, registers, memory.len(), bad, store.len()) {
         return Answer::Refused(number);
     }
     let mut lent = Lent {
         state,
         registers,
-        memory,
+        board: Board { memory, bad },
         store: store.try_into().expect("refusal 2 was tested"),
     };
     step(&mut lent, call, watch)
 }
 
-/// One call on lent things that refusals 1 to 4 do not meet. Keeps that true.
+/// One call on lent things that refusals 1 to 4 and 16 do not meet. Keeps that true.
 #[inline]
 pub fn step<T: Watch>(lent: &mut Lent, call: &Call, watch: &mut T) -> Answer {
     if let Some(number) = refusals::of_call(lent.state.counts.calls, call) {
@@ -125,11 +142,12 @@ pub enum RunError {
 }
 
 /// The calls of a list in a row, five numbers each; answers as `Answer::as_number`.
-/// Refusals 1 to 4 are tested once: if one is met, every call is refused with it.
+/// Refusals 1 to 4 and 16 are tested once: if one is met, every call is refused with it.
 pub fn run(
     state: &mut State,
     registers: &mut Registers,
     memory: &mut [u8],
+    bad: &[u8],
     store: &mut [u8],
     calls: &[u32],
     answers: &mut [u64],
@@ -137,14 +155,14 @@ pub fn run(
     if calls.len() != answers.len() * FIELDS {
         return Err(RunError::Lengths);
     }
-    let refused = refusals::of_lent(state, registers, memory.len(), store.len());
+    let refused = refusals::of_lent(state, registers, memory.len(), bad, store.len());
     if let Some(number) = refused {
         return refuse_all(number, calls, answers);
     }
     let mut lent = Lent {
         state,
         registers,
-        memory,
+        board: Board { memory, bad },
         store: store.try_into().expect("refusal 2 was tested"),
     };
     for (i, numbers) in calls.chunks_exact(FIELDS).enumerate() {
@@ -165,21 +183,23 @@ fn refuse_all(number: u32, calls: &[u32], answers: &mut [u64]) -> Result<(), Run
 }
 
 /// The 32 bytes of a virtual address's line, out of the cache store if held there, otherwise out of
-/// memory by a walk past the TLB. Empty under refusals 1 to 4 and under a walk or bounds fault.
+/// memory by a walk past the TLB. Empty under refusals 1 to 4 and 16 and under a walk or bounds fault. The
+/// walk alone heeds the map: bad words of the line are shown as memory has them.
 pub fn look<'a>(
     state: &State,
     registers: &Registers,
     memory: &'a [u8],
+    bad: &[u8],
     store: &'a [u8],
     address: u32,
 ) -> &'a [u8] {
-    if refusals::of_lent(state, registers, memory.len(), store.len()).is_some() {
+    if refusals::of_lent(state, registers, memory.len(), bad, store.len()).is_some() {
         return &[];
     }
     if let Some(index) = state.cache.find(address) {
         return &store[index * LINE_BYTES..][..LINE_BYTES];
     }
-    match look_through(registers, memory, address) {
+    match look_through(registers, Bus { memory, bad }, address) {
         Some(physical) if (physical as usize) < memory.len() => {
             let line = physical as usize / LINE_BYTES;
             &memory[line * LINE_BYTES..][..LINE_BYTES]
@@ -189,11 +209,11 @@ pub fn look<'a>(
 }
 
 /// The physical address that a look goes to: flat with M clear, else by a walk.
-fn look_through(registers: &Registers, memory: &[u8], address: u32) -> Option<u32> {
+fn look_through(registers: &Registers, bus: Bus, address: u32) -> Option<u32> {
     if !registers.plain.has(M) {
         return Some(address);
     }
-    walk(memory, registers.plain.table_base, address)
+    walk(bus, registers.plain.table_base, address)
         .found
         .ok()
         .map(|entry| entry.physical(address))

@@ -2,6 +2,7 @@
 
 use crate::access::{aligned, check_rights, Place};
 use crate::answers::{Abort, Answer, Fault};
+use crate::bus::{Bus, WORD_BYTES};
 use crate::calls::{Access, Call, Kind};
 use crate::refusals;
 use crate::registers::{operation, Operation, M};
@@ -12,6 +13,9 @@ use crate::words;
 #[derive(Clone, Debug, PartialEq, Eq)]
 pub struct Plain {
     pub memory: Vec<u8>,
+    /// The map of bad words, and refusal 16 if it does not fit: tested once, since it is unchanged through a run.
+    bad: Vec<u8>,
+    bad_refused: Option<u32>,
     pub registers: PlainRegisters,
     pub calls: u32,
 }
@@ -63,12 +67,22 @@ impl Deed {
 }
 
 impl Plain {
-    /// Registers and count all zero, on the start's memory.
-    pub fn start(memory: Vec<u8>) -> Plain {
+    /// Registers and count all zero, on the start's memory with this map.
+    pub fn start(memory: Vec<u8>, bad: Vec<u8>) -> Plain {
         Plain {
+            bad_refused: refusals::of_map(memory.len(), &bad),
             memory,
+            bad,
             registers: PlainRegisters::default(),
             calls: 0,
+        }
+    }
+
+    /// Memory with its map.
+    pub fn bus(&self) -> Bus<'_> {
+        Bus {
+            memory: &self.memory,
+            bad: &self.bad,
         }
     }
 
@@ -81,7 +95,8 @@ impl Plain {
 
     /// What the call will do, without doing it.
     pub fn foresee(&self, call: &Call) -> Deed {
-        if let Some(number) = refusals::of_call(self.calls, call) {
+        let refused = self.bad_refused;
+        if let Some(number) = refused.or_else(|| refusals::of_call(self.calls, call)) {
             return Deed::answering(Answer::Refused(number));
         }
         match *call {
@@ -130,7 +145,7 @@ impl Plain {
         if !self.registers.has(M) {
             return Some(address);
         }
-        walk(&self.memory, self.registers.table_base, address)
+        walk(self.bus(), self.registers.table_base, address)
             .found
             .ok()
             .map(|entry| entry.physical(address))
@@ -158,7 +173,7 @@ impl Plain {
     fn reach(&self, access: &Access, deed: &mut Deed) -> Result<u32, Abort> {
         let address = aligned(&self.registers, access)?;
         let place = if self.registers.has(M) {
-            let walk = walk(&self.memory, self.registers.table_base, address);
+            let walk = walk(self.bus(), self.registers.table_base, address);
             deed.walk = Some(walk);
             let entry = walk.found?;
             check_rights(&self.registers, &entry, address, access)?;
@@ -166,15 +181,14 @@ impl Plain {
         } else {
             Place::flat(address)
         };
-        let inside = (place.physical as usize) < self.memory.len();
         deed.reached = Some(Reached {
             virtual_line: address / LINE_BYTES as u32,
             physical_line: place.physical / LINE_BYTES as u32,
             flat: !self.registers.has(M),
-            inside,
+            inside: (place.physical as usize) < self.memory.len(),
         });
-        if !inside {
-            return self.outside(access, &place);
+        if self.drops(access, &place)? {
+            return Ok(0);
         }
         deed.stored = access.stores().map(|value| Stored {
             physical: place.physical,
@@ -191,14 +205,23 @@ impl Plain {
         ))
     }
 
-    /// An access outside memory: a dropped store, or a fault. A swap is never dropped, and never 4 or 6.
-    fn outside(&self, access: &Access, place: &Place) -> Result<u32, Abort> {
+    /// Is the access a store that is dropped? One that aborts otherwise is a fault: a load that may fill by
+    /// any word of its line up to its own. A swap is never dropped, and never 4 or 6.
+    fn drops(&self, access: &Access, place: &Place) -> Result<bool, Abort> {
+        let bus = self.bus();
+        let aborts = bus.aborts(place.physical);
         match access.kind {
-            Kind::Store(_) if place.buffers(&self.registers) => Ok(0),
+            Kind::Store(_) if place.buffers(&self.registers) => Ok(aborts),
             Kind::Load | Kind::SignedLoad if place.fills(&self.registers) => {
-                Err(place.fill_abort())
+                let first = place.physical & !(LINE_BYTES as u32 - 1);
+                let mut words = (first..=place.physical).step_by(WORD_BYTES);
+                if words.any(|word| bus.aborts(word)) {
+                    return Err(place.fill_abort());
+                }
+                Ok(false)
             }
-            _ => Err(place.other_abort()),
+            _ if aborts => Err(place.other_abort()),
+            _ => Ok(false),
         }
     }
 }

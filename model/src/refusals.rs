@@ -1,9 +1,13 @@
-//! Refusals 1 to 12 in checking order. 14 and 15 are met by texts alone: see `text`.
+//! Refusals 1 to 12 and 16 in checking order: 16 comes behind 4. 14 and 15 are met by texts alone: see `text`.
 
+use crate::bus;
 use crate::calls::Call;
 use crate::registers::{control_listed, operation, BIG_ENDIAN};
 use crate::soundness;
 use crate::state::{Registers, State, MEMORY_LIMIT, STORE_BYTES};
+
+/// The refusal of a map of bad words that does not fit.
+pub const BAD_MAP: u32 = 16;
 
 /// Refusal 1: the length of the lent memory.
 pub fn of_memory(memory: usize) -> Option<u32> {
@@ -15,9 +19,22 @@ pub fn of_lengths(memory: usize, store: usize) -> Option<u32> {
     of_memory(memory).or_else(|| (store != STORE_BYTES).then_some(2))
 }
 
-/// Refusals 1 to 4: the lent things.
-pub fn of_lent(state: &State, registers: &Registers, memory: usize, store: usize) -> Option<u32> {
-    of_lengths(memory, store).or_else(|| of_state(state, registers, memory))
+/// Refusals 1 to 4 and 16: the lent things.
+pub fn of_lent(
+    state: &State,
+    registers: &Registers,
+    memory: usize,
+    bad: &[u8],
+    store: usize,
+) -> Option<u32> {
+    of_lengths(memory, store)
+        .or_else(|| of_state(state, registers, memory))
+        .or_else(|| of_map(memory, bad))
+}
+
+/// Refusal 16: the lent map of bad words, for a memory of so many bytes.
+pub fn of_map(memory: usize, bad: &[u8]) -> Option<u32> {
+    (!bus::map_fits(memory, bad)).then_some(BAD_MAP)
 }
 
 /// Refusals 3 and 4, where 1 does not hold. 3 goes by the memory lent in this call.

@@ -3,6 +3,7 @@
 //! bytes and give the output's; `stream` reads and writes as it goes.
 
 use crate::answers::Answer;
+use crate::bus::no_bad_words;
 use crate::calls::{Call, FIELDS};
 use crate::coverage::Unwatched;
 use crate::machine::Machine;
@@ -43,14 +44,14 @@ pub struct Replayed {
     pub stopped: bool,
 }
 
-/// The machine at a replay's start.
+/// The machine at a replay's start. The map has no bad words.
 pub fn fresh() -> Machine {
     Machine::fresh(vec![0; MEMORY_BYTES])
 }
 
 /// The plain machine at a replay's start.
 pub fn fresh_plain() -> Plain {
-    Plain::start(vec![0; MEMORY_BYTES])
+    Plain::start(vec![0; MEMORY_BYTES], no_bad_words(MEMORY_BYTES))
 }
 
 /// What the replay of a whole input prints.

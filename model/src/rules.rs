@@ -1,6 +1,7 @@
 //! The rules R2 to R6 and the end condition, as a monitor fed by the plain machine alone.
 //! R1 is the threading of the machine from call to call and needs no monitor. A swap is an access that
-//! reaches its line and, inside memory, a store to its word and line.
+//! reaches its line and, unless it aborts, a store to its word and line. A store that is dropped, outside
+//! memory or at a bad word, is none.
 
 use crate::answers::Answer;
 use crate::calls::Call;
@@ -35,6 +36,8 @@ pub enum Part {
     R5,
     /// R6: the sixteen words lie in memory.
     R6Memory,
+    /// R6: the sixteen words are good ones.
+    R6Good,
     /// R6: the sixteen words are equal.
     R6Equal,
     /// R6 is asked also of accesses whose rights then fail.
@@ -341,6 +344,11 @@ fn allows_large_page(rules: &Rules, plain: &Plain, deed: &Deed, walk: &Walk) -> 
     if end < first + 64 && rules.ask(Part::R6Memory) {
         return Err(Part::R6Memory);
     }
+    let mut words = (first..end).step_by(4);
+    let bad = words.any(|word| plain.bus().aborts(word as u32));
+    if bad && rules.ask(Part::R6Good) {
+        return Err(Part::R6Good);
+    }
     let group = &plain.memory[first..end];
     let equal = group.chunks_exact(4).all(|word| *word == group[..4]);
     if !equal && rules.ask(Part::R6Equal) {
@@ -357,9 +365,9 @@ pub struct Monitor {
 }
 
 impl Monitor {
-    pub fn start(memory: Vec<u8>, rules: Rules) -> Monitor {
+    pub fn start(memory: Vec<u8>, bad: Vec<u8>, rules: Rules) -> Monitor {
         Monitor {
-            plain: Plain::start(memory),
+            plain: Plain::start(memory, bad),
             history: History::default(),
             rules,
         }

@@ -8,12 +8,21 @@ use crate::machine::Machine;
 use crate::rules::{Monitor, Part, Rules};
 use std::fmt;
 
-/// A start's memory and store, and the calls after it.
+/// A start's memory and store, the map of bad words, and the calls after the start.
 #[derive(Clone, Debug)]
 pub struct Run {
     pub memory: Vec<u8>,
+    pub bad: Vec<u8>,
     pub store: Vec<u8>,
     pub calls: Vec<Call>,
+}
+
+impl Run {
+    /// The library machine after the start.
+    pub fn machine(&self) -> Machine {
+        let (memory, bad) = (self.memory.clone(), self.bad.clone());
+        Machine::start(memory, bad, self.store.clone()).expect("a served start")
+    }
 }
 
 /// Where library and plain machine differ.
@@ -52,8 +61,8 @@ pub enum Verdict {
 
 /// Runs library and plain machine side by side under the rules.
 pub fn compare<T: Watch>(run: &Run, rules: Rules, watch: &mut T) -> Verdict {
-    let mut library = Machine::start(run.memory.clone(), run.store.clone()).expect("a start");
-    let mut monitor = Monitor::start(run.memory.clone(), rules);
+    let mut library = run.machine();
+    let mut monitor = Monitor::start(run.memory.clone(), run.bad.clone(), rules);
     let mut difference = None;
     for (i, call) in run.calls.iter().enumerate() {
         let deed = match monitor.propose(call) {
@@ -106,14 +115,17 @@ fn differs(run: &Run, rules: Rules) -> bool {
     matches!(compare(run, rules, &mut Unwatched), Verdict::Differs(_))
 }
 
-/// Makes a run that differs under the rules shorter: drops calls one by one, and zeroes memory,
+/// Makes a run that differs under the rules shorter: drops calls one by one, and zeroes memory and map,
 /// while it still differs.
 pub fn shrink(run: &Run, rules: Rules) -> Run {
     let mut shrunk = run.clone();
     cut_after_difference(&mut shrunk, rules);
     while drop_calls(&mut shrunk, rules) {}
     for size in [1024, 4] {
-        zero_memory(&mut shrunk, rules, size);
+        zero(&mut shrunk, rules, size, |run| &mut run.memory);
+    }
+    for size in [256, 1] {
+        zero(&mut shrunk, rules, size, |run| &mut run.bad);
     }
     while drop_calls(&mut shrunk, rules) {}
     shrunk
@@ -139,17 +151,18 @@ fn drop_calls(run: &mut Run, rules: Rules) -> bool {
     run.calls.len() < before
 }
 
-/// Zeroes pieces of the start's memory that the difference does not need.
-fn zero_memory(run: &mut Run, rules: Rules, size: usize) {
-    for at in (0..run.memory.len()).step_by(size) {
-        let end = (at + size).min(run.memory.len());
-        let piece = run.memory[at..end].to_vec();
+/// Zeroes pieces of some bytes of the run that the difference does not need.
+fn zero(run: &mut Run, rules: Rules, size: usize, bytes: fn(&mut Run) -> &mut Vec<u8>) {
+    let length = bytes(run).len();
+    for at in (0..length).step_by(size) {
+        let end = (at + size).min(length);
+        let piece = bytes(run)[at..end].to_vec();
         if piece.iter().all(|byte| *byte == 0) {
             continue;
         }
-        run.memory[at..end].fill(0);
+        bytes(run)[at..end].fill(0);
         if !differs(run, rules) {
-            run.memory[at..end].copy_from_slice(&piece);
+            bytes(run)[at..end].copy_from_slice(&piece);
         }
     }
 }
@@ -163,6 +176,9 @@ impl fmt::Display for Run {
             if word != 0 {
                 writeln!(out, "       word {word:X} at {:X}", i * 4)?;
             }
+        }
+        for (i, _) in self.bad.iter().enumerate().filter(|word| *word.1 == 1) {
+            writeln!(out, "       bad word at {:X}", i * 4)?;
         }
         for (i, call) in self.calls.iter().enumerate() {
             writeln!(out, "{i:>5X}  {call}   {:X?}", call.to_numbers())?;

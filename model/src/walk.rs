@@ -1,38 +1,26 @@
 //! The walk: level 1 and level 2 descriptors, read from memory alone (001, figures 2-1 and 2-2).
 
 use crate::answers::{Abort, Status};
+use crate::bus::Bus;
 use crate::state::TlbEntry;
-use crate::words;
 
-/// Reads descriptor words of the lent memory, never cache or buffer.
-pub struct Reader<'a> {
-    pub memory: &'a [u8],
-}
-
-impl Reader<'_> {
-    /// The word at a physical address that is a multiple of four; none outside memory.
-    pub fn word(&self, address: u32) -> Option<u32> {
-        ((address as usize) < self.memory.len())
-            .then(|| words::read(self.memory, address as usize, 4))
-    }
-}
-
-/// A walk: the physical addresses of the words it read, and what it found.
+/// A walk: the physical addresses of the words it read and of one that aborted, and what it found.
 #[derive(Clone, Copy, Debug, PartialEq, Eq)]
 pub struct Walk {
     pub level1: Option<u32>,
     pub level2: Option<u32>,
+    pub aborted: Option<u32>,
     pub found: Result<TlbEntry, Abort>,
 }
 
-/// Walks for a virtual address.
-pub fn walk(memory: &[u8], table_base: u32, address: u32) -> Walk {
-    let reader = Reader { memory };
+/// Walks for a virtual address; memory is read over the bus, never cache or buffer.
+pub fn walk(bus: Bus, table_base: u32, address: u32) -> Walk {
     let at = table_base + 4 * (address >> 20);
-    let Some(word) = reader.word(at) else {
+    let Some(word) = bus.read(at) else {
         return Walk {
             level1: None,
             level2: None,
+            aborted: Some(at),
             found: Err(Abort {
                 status: Status::WalkLevel1,
                 domain: 0,
@@ -42,13 +30,14 @@ pub fn walk(memory: &[u8], table_base: u32, address: u32) -> Walk {
     let mut walk = Walk {
         level1: Some(at),
         level2: None,
+        aborted: None,
         found: Err(Abort {
             status: Status::TranslationSection,
             domain: 0,
         }),
     };
     match word & 3 {
-        1 => walk_level2(&reader, word, address, &mut walk),
+        1 => walk_level2(bus, word, address, &mut walk),
         2 => walk.found = Ok(section(word, address)),
         _ => {}
     }
@@ -56,10 +45,11 @@ pub fn walk(memory: &[u8], table_base: u32, address: u32) -> Walk {
 }
 
 /// The second level, under a level 1 word that names a table.
-fn walk_level2(reader: &Reader, level1: u32, address: u32, walk: &mut Walk) {
+fn walk_level2(bus: Bus, level1: u32, address: u32, walk: &mut Walk) {
     let domain = level1 >> 5 & 15;
     let at = (level1 & 0xFFFF_FC00) + 4 * (address >> 12 & 0xFF);
-    let Some(word) = reader.word(at) else {
+    let Some(word) = bus.read(at) else {
+        walk.aborted = Some(at);
         walk.found = Err(Abort {
             status: Status::WalkLevel2,
             domain,

@@ -16,12 +16,6 @@ fn dirty_line(address: u32) -> [Call; 3] {
     ]
 }
 
-fn blocks(m: &Machine) -> Vec<u32> {
-    let buffer = &m.state.buffer;
-    let slots = &buffer.slots[..buffer.entries as usize];
-    slots.iter().map(|slot| slot.block).collect()
-}
-
 #[test]
 fn a_clean_sends_the_low_half_first_and_keeps_the_line() {
     let mut m = mapped_twice();
@@ -129,23 +123,6 @@ fn stores_that_miss() {
     serve(&mut m, &[Call::store(4, 0x1000, 7), Call::write(1, 0)]);
     serve(&mut m, &[Call::store(4, 0x2000, 8)]);
     assert_eq!((m.memory[0x1000], m.memory[0x2000]), (7, 8));
-}
-
-#[test]
-fn a_fill_outside_memory_changes_no_line() {
-    let mut m = mapped_twice();
-    serve(&mut m, &dirty_line(0x1000));
-    m.state.cache.pointers[0] = 0;
-    serve(&mut m, &[Call::store(4, 0x2000, 1)]);
-    let before = m.clone();
-    let answer = m.call(&Call::load(4, 0x4000));
-    assert_eq!(answer, fault(Status::FillSection, 0, 0x4000));
-    assert_eq!(m.state.cache, before.state.cache);
-    assert_eq!(m.state.buffer, before.state.buffer);
-    assert_eq!(m.memory, before.memory);
-    assert_eq!(m.store, before.store);
-    assert_eq!(m.state.counts.fills, before.state.counts.fills);
-    assert_eq!(m.state.counts.calls, before.state.counts.calls + 1);
 }
 
 #[test]

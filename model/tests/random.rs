@@ -3,10 +3,9 @@
 use sa110_model::answers::Answer;
 use sa110_model::calls::Call;
 use sa110_model::coverage::{Coverage, Unwatched, Watch};
-use sa110_model::library;
-use sa110_model::machine::Machine;
 use sa110_model::random::damage::DAMAGES;
 use sa110_model::random::guided::{free, guided};
+use sa110_model::random::maps;
 use sa110_model::random::rng::{from_environment, Rng};
 use sa110_model::random::states;
 use sa110_model::rules::Rules;
@@ -20,17 +19,21 @@ fn term_3() {
     let runs = from_environment("RUNS", 40_000);
     println!("Term 3: seed {seed}, {runs} runs that keep the rules.");
     let mut coverage = Coverage::default();
-    let (mut calls, mut longest) = (0, 0);
+    let (mut calls, mut longest, mut with_bad_words) = (0, 0, 0);
     for i in 0..runs {
         let mut rng = Rng::of_run(seed, i);
         let length = run_length(&mut rng);
         let run = guided(&mut rng, length, Rules::ALL).run;
         calls += run.calls.len();
         longest = longest.max(run.calls.len());
+        with_bad_words += u64::from(run.bad.contains(&1));
         agrees(seed, i, &run, &mut coverage);
     }
     println!("{coverage}");
-    println!("Term 3: {runs} runs, {calls} calls agreed, the longest run {longest} calls.");
+    println!(
+        "Term 3: {runs} runs, {with_bad_words} of them with bad words, {calls} calls agreed, the longest run \
+         {longest} calls."
+    );
 }
 
 /// Mostly up to 600 calls, now and then 6,000.
@@ -81,8 +84,13 @@ fn coverage() {
     println!("{coverage}");
     let missing = guided_alone.missing();
     println!("Never in the guided runs alone: {missing:?}");
-    let refusals = |of: &'static str| (1..=5).map(move |number| format!("{of}refusal {number}"));
-    let expected: Vec<_> = refusals("").chain(refusals("swap, ")).collect();
+    let refusals = |of: &'static str| {
+        let numbers = (1..=5).chain([16]);
+        numbers.map(move |number| format!("{of}refusal {number}"))
+    };
+    // from a start no line with a bad word is ever held
+    let mut expected = vec!["hit of a bad word".to_string()];
+    expected.extend(refusals("").chain(refusals("swap, ")));
     assert_eq!(missing, expected);
     assert_eq!(coverage.missing(), Vec::<String>::new());
 }
@@ -90,11 +98,11 @@ fn coverage() {
 /// A free run: never refused by 1 to 5, sound at the end.
 fn free_run(rng: &mut Rng, coverage: &mut Coverage) {
     let run = free(rng, 200);
-    let mut m = Machine::start(run.memory, run.store).expect("a start");
+    let mut m = run.machine();
     for call in &run.calls {
         let answer = m.step(call, coverage);
         coverage.note_answer(call, &answer);
-        assert!(!matches!(answer, Answer::Refused(1..=5)));
+        assert!(!matches!(answer, Answer::Refused(1..=5 | 16)));
     }
     assert!(m.is_sound());
 }
@@ -104,16 +112,16 @@ fn sound_run(rng: &mut Rng, coverage: &mut Coverage) {
     for call in states::calls(rng, &sound.world, 20) {
         let answer = sound.machine.call_watched(&call, coverage);
         coverage.note_answer(&call, &answer);
-        assert!(!matches!(answer, Answer::Refused(1..=4)));
+        assert!(!matches!(answer, Answer::Refused(1..=4 | 16)));
     }
 }
 
-/// Damaged states and lent things of the wrong length: refusals 1 to 4, nothing changed.
+/// Damaged states and lent things that do not fit: refusals 1 to 4 and 16, nothing changed.
 fn damaged_call(rng: &mut Rng, coverage: &mut Coverage) {
     let mut sound = states::sound(rng);
     let call = states::calls(rng, &sound.world, 1)[0];
     let m = &mut sound.machine;
-    let expected = match rng.below(8) {
+    let expected = match rng.below(9) {
         0 => {
             m.memory.push(0);
             1
@@ -125,6 +133,10 @@ fn damaged_call(rng: &mut Rng, coverage: &mut Coverage) {
         2 => {
             m.state.memory_length = m.state.memory_length.wrapping_add(1 + rng.below(u32::MAX));
             4
+        }
+        3 => {
+            maps::damage(rng, &mut m.bad);
+            16
         }
         _ => {
             let damage = &DAMAGES[rng.below(DAMAGES.len() as u32) as usize];
@@ -162,15 +174,7 @@ fn run_is_call_after_call() {
             .collect();
         let mut m = sound.machine;
         let mut answers = vec![0; list.len()];
-        let ran = library::run(
-            &mut m.state,
-            &mut m.registers,
-            &mut m.memory,
-            &mut m.store,
-            &numbers,
-            &mut answers,
-        );
-        assert_eq!(ran, Ok(()));
+        assert_eq!(m.run(&numbers, &mut answers), Ok(()));
         assert_eq!(answers, expected, "seed {seed}, run {i}");
         assert_eq!(m, one_by_one, "seed {seed}, run {i}");
         calls += list.len();
@@ -184,6 +188,7 @@ fn runs_follow_from_the_seed() {
     let make = |seed, run| guided(&mut Rng::of_run(seed, run), 100, Rules::ALL).run;
     let (a, b) = (make(5, 7), make(5, 7));
     assert_eq!((a.calls, a.memory, a.store), (b.calls, b.memory, b.store));
+    assert_eq!(a.bad, b.bad);
     assert_ne!(make(5, 7).calls, make(5, 8).calls);
     assert_ne!(make(5, 7).calls, make(6, 7).calls);
 }

@@ -1,8 +1,9 @@
-//! Refusals 1 to 12: each for each kind of call that meets it, the order of any two, no change.
+//! Refusals 1 to 12 and 16: each for each kind of call that meets it, the order of any two, no change.
 
 mod common;
 use common::*;
 use sa110_model::answers::Answer;
+use sa110_model::bus::no_bad_words;
 use sa110_model::calls::Call;
 use sa110_model::library::{self, RunError};
 use sa110_model::machine::Machine;
@@ -54,6 +55,7 @@ fn meet(number: u32, m: &mut Machine, call: &mut Call) -> bool {
         2 => m.store.truncate(STORE_BYTES - 1),
         3 => m.state.cache.pointers[3] = 32,
         4 => m.state.memory_length ^= 0x20,
+        16 => m.bad[7] = 2,
         5 => m.state.counts.calls = u32::MAX,
         6..=12 => return meet_in_call(number, call),
         _ => unreachable!(),
@@ -120,28 +122,31 @@ fn every_kind_is_served_on_the_ready_machine() {
     }
 }
 
+/// The refusals of a call, in checking order.
+const ORDER: [u32; 13] = [1, 2, 3, 4, 16, 5, 6, 7, 8, 9, 10, 11, 12];
+
 #[test]
 fn each_refusal_for_each_kind() {
-    let mut met = [0; 13];
+    let mut met = [0; ORDER.len()];
     for call in kinds() {
-        for number in 1..=12 {
+        for (count, number) in met.iter_mut().zip(ORDER) {
             let (mut m, mut call) = (ready(), call);
             if meet(number, &mut m, &mut call) {
                 refused(&mut m, &call, number);
-                met[number as usize] += 1;
+                *count += 1;
             }
         }
     }
-    println!("kinds of call refused, by number: {:?}", &met[1..]);
-    assert_eq!(&met[1..], [13, 13, 13, 13, 13, 4, 2, 9, 9, 6, 1, 1]);
+    println!("kinds of call refused, in checking order: {met:?}");
+    assert_eq!(met, [13, 13, 13, 13, 13, 13, 4, 2, 9, 9, 6, 1, 1]);
 }
 
 #[test]
-fn the_lower_number_of_two_comes_first() {
+fn the_first_of_two_in_order() {
     let mut pairs = 0;
     for call in kinds() {
-        for first in 1..=12 {
-            for second in first + 1..=12 {
+        for (i, first) in ORDER.into_iter().enumerate() {
+            for second in ORDER.into_iter().skip(i + 1) {
                 let (mut m, mut call) = (ready(), call);
                 if !meet(first, &mut m, &mut call) {
                     continue;
@@ -163,13 +168,13 @@ fn the_lower_number_of_two_comes_first() {
 fn all_at_once() {
     let mut m = ready();
     let mut call = Call::write(1, 0x8C);
-    for number in [8, 5, 4, 3, 2, 1] {
+    for number in [8, 5, 16, 4, 3, 2, 1] {
         assert!(meet(number, &mut m, &mut call));
         refused(&mut m, &call, number);
     }
     let mut m = ready();
     let mut call = Call::store(3, 0, u32::MAX);
-    for number in [5, 4, 3, 2, 1] {
+    for number in [5, 16, 4, 3, 2, 1] {
         assert!(meet(number, &mut m, &mut call));
         refused(&mut m, &call, number);
     }
@@ -188,8 +193,20 @@ fn lengths() {
         m.store = vec![0; length];
         refused(&mut m, &Call::load(4, 0), 2);
     }
+    for length in [0, 1, 0xFFF, 0x1001, 0x2000, 0x4000] {
+        let mut m = ready();
+        m.bad = vec![0; length];
+        refused(&mut m, &Call::load(4, 0), 16);
+    }
+    for at in [0, 1, 0x800, 0xFFF] {
+        let mut m = ready();
+        m.bad[at] = 2;
+        refused(&mut m, &Call::load(4, 0), 16);
+    }
     let mut m = Machine::fresh(vec![0; 16_777_216]);
     assert_eq!(m.call(&Call::load(4, 16_777_212)), value(0));
+    m.bad[4_194_303] = 255;
+    assert_eq!(m.call(&Call::load(4, 16_777_212)), Answer::Refused(16));
     let mut m = Machine::fresh(vec![]);
     assert!(matches!(m.call(&Call::load(4, 0)), Answer::Fault(_)));
 }
@@ -313,7 +330,7 @@ fn calls_at_the_limit() {
         refused(&mut m, &call, 5);
     }
     // The plain machine refuses by its own count.
-    let mut plain = sa110_model::plain::Plain::start(vec![0; 0x40]);
+    let mut plain = sa110_model::plain::Plain::start(vec![0; 0x40], no_bad_words(0x40));
     plain.calls = u32::MAX;
     let before = plain.clone();
     for call in kinds() {
@@ -348,36 +365,28 @@ fn start() {
     }
 }
 
-/// A look is empty under refusals 1 to 4.
+/// A look is empty under refusals 1 to 4 and 16.
 #[test]
 fn look() {
     let m = ready();
     assert_eq!(m.look(0x100).len(), 32);
-    for number in 1..=4 {
+    for number in [1, 2, 3, 4, 16] {
         let (mut m, mut call) = (ready(), Call::read(1));
         meet(number, &mut m, &mut call);
         assert_eq!(m.look(0x100).len(), 0, "under refusal {number}");
     }
 }
 
-/// A run under refusals 1 to 4 answers each call as `call` does.
+/// A run under refusals 1 to 4 and 16 answers each call as `call` does.
 #[test]
 fn run_is_refused_as_its_calls_are() {
     let calls: Vec<u32> = kinds().iter().flat_map(|call| call.to_numbers()).collect();
-    for number in 1..=4 {
+    for number in [1, 2, 3, 4, 16] {
         let mut m = ready();
         meet(number, &mut m, &mut Call::read(1));
         let before = m.clone();
         let mut answers = vec![0; kinds().len()];
-        let ran = library::run(
-            &mut m.state,
-            &mut m.registers,
-            &mut m.memory,
-            &mut m.store,
-            &calls,
-            &mut answers,
-        );
-        assert_eq!(ran, Ok(()));
+        assert_eq!(m.run(&calls, &mut answers), Ok(()));
         assert!(answers.iter().all(|a| *a == (2 << 32) + number as u64));
         assert_eq!(m, before);
     }
@@ -388,15 +397,7 @@ fn run_tells_what_is_not_a_call() {
     let run = |calls: &[u32], answers: usize| {
         let mut m = ready();
         let mut answers = vec![9; answers];
-        let ran = library::run(
-            &mut m.state,
-            &mut m.registers,
-            &mut m.memory,
-            &mut m.store,
-            calls,
-            &mut answers,
-        );
-        (ran, answers)
+        (m.run(calls, &mut answers), answers)
     };
     let three = [3, 1, 1, 0, 0, 6, 1, 1, 0, 0, 3, 1, 1, 0, 0];
     assert_eq!(run(&three[..5], 1), (Ok(()), vec![0x7D]));

@@ -3,6 +3,7 @@
 mod common;
 use common::*;
 use sa110_model::answers::{Answer, Status};
+use sa110_model::bus::no_bad_words;
 use sa110_model::calls::Call;
 use sa110_model::coverage::Unwatched;
 use sa110_model::random::guided::guided;
@@ -16,6 +17,7 @@ fn run(memory: Vec<u8>, calls: &[Call]) -> Run {
     let mut all = vec![Call::write(3, 1), Call::write(1, 0xD)];
     all.extend(calls);
     Run {
+        bad: no_bad_words(memory.len()),
         memory,
         store: vec![0; STORE_BYTES],
         calls: all,
@@ -236,6 +238,18 @@ fn r6_in_memory() {
     breaks(&run(memory, &calls), Part::R6Memory, library, plain);
 }
 
+/// The second word of the group is bad: the plain machine's walk for its page aborts.
+#[test]
+fn r6_good() {
+    let mut words = vec![(4, 0x401)];
+    words.extend((0..16).map(|i| (0x400 + 4 * i, 0xFFD)));
+    let calls = [Call::load(4, 0x100800), Call::load(4, 0x101000)];
+    let mut run = run(memory(0x4000, &words), &calls);
+    run.bad[0x404 / 4] = 1;
+    let plain = fault(Status::WalkLevel2, 0, 0x101000);
+    breaks(&run, Part::R6Good, value(0), plain);
+}
+
 /// The first access is denied by AP0 but leaves the large page in the TLB.
 #[test]
 fn r6_of_denied_accesses() {
@@ -327,6 +341,7 @@ fn random_runs_find_what_a_missing_part_breaks() {
         Part::R4Drain,
         Part::R4TlbFlush,
         Part::R5,
+        Part::R6Good,
         Part::R6Equal,
     ];
     for part in parts {

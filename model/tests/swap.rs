@@ -3,6 +3,7 @@
 mod common;
 use common::*;
 use sa110_model::answers::{Answer, Status};
+use sa110_model::bus::no_bad_words;
 use sa110_model::calls::Call;
 use sa110_model::machine::Machine;
 use sa110_model::plain::Plain;
@@ -33,7 +34,7 @@ const NEITHER: [(u32, u32); 4] = [(0xC02, 0xD), (0xC02, 9), (0xC0E, 1), (0xC0E, 
 /// As `section`, on the plain machine.
 fn plain_section(word: u32, control: u32) -> Plain {
     let words = [&[(0, word)], &WORDS[..]].concat();
-    let mut plain = Plain::start(memory(0x4000, &words));
+    let mut plain = Plain::start(memory(0x4000, &words), no_bad_words(0x4000));
     plain.call(&Call::write(3, 1));
     plain.call(&Call::write(1, control));
     plain

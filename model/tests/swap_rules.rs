@@ -2,13 +2,14 @@
 
 mod common;
 use common::memory;
+use sa110_model::bus::no_bad_words;
 use sa110_model::calls::Call;
 use sa110_model::rules::{Monitor, Part, Rules};
 
 /// A run whose sections 0 and 1 map to physical 0, after these calls, which the rules allow.
 fn run_of(calls: &[Call]) -> Monitor {
     let memory = memory(0x4000, &[(0, 0xC0E), (4, 0xC0E)]);
-    let mut monitor = Monitor::start(memory, Rules::ALL);
+    let mut monitor = Monitor::start(memory, no_bad_words(0x4000), Rules::ALL);
     for call in [Call::write(3, 1), Call::write(1, 0xD)].iter().chain(calls) {
         let deed = monitor.propose(call).expect("the rules allow it");
         monitor.accept(&deed);

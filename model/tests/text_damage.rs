@@ -203,8 +203,7 @@ fn runs_stopped_and_carried_on() {
         let mut rng = Rng::of_run(seed, run);
         let rng = &mut rng;
         for run in [free(rng, 200), guided(rng, 200, Rules::ALL).run] {
-            let m = Machine::start(run.memory, run.store).expect("a start");
-            stops += carries_on(rng, &m, &run.calls);
+            stops += carries_on(rng, &run.machine(), &run.calls);
             calls += run.calls.len();
         }
         let sound = states::sound(rng);

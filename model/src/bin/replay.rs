@@ -7,7 +7,7 @@ use std::process::ExitCode;
 const USAGE: &str = "usage: replay
 Reads calls from standard input, one a line: call, privileged, width or register number, address or
 opcode 2 * 16 + CRm, value. Prints line number, kind (0 served, 1 fault, 2 refused) and the value, FSR or
-refusal number. Memory is 65536 zero bytes. It takes no arguments.";
+refusal number. Memory is 65536 zero bytes without bad words. It takes no arguments.";
 
 fn main() -> ExitCode {
     if std::env::args().len() > 1 {

@@ -1,8 +1,9 @@
 //! Whole random runs: guided ones keep the rules, free ones ignore them.
 
+use super::maps::Map;
 use super::proposals::Proposer;
 use super::rng::Rng;
-use super::world::{world, world_of, World};
+use super::world::{world, world_with, World};
 use crate::calls::Call;
 use crate::rules::{Monitor, Part, Rules};
 use crate::term3::Run;
@@ -18,16 +19,27 @@ pub struct Guided {
 /// its virtual line and drains. `rules` may have a part left out.
 pub fn guided(rng: &mut Rng, length: usize, rules: Rules) -> Guided {
     let world = world(rng);
+    guided_in(rng, world, length, rules)
+}
+
+/// As `guided`, in this world.
+pub fn guided_in(rng: &mut Rng, world: World, length: usize, rules: Rules) -> Guided {
     let proposer = Proposer::new(rng, &world);
     let (calls, turned_down) = guided_calls(rng, proposer, &[], length, rules);
     let run = run_in(world, calls);
     Guided { run, turned_down }
 }
 
-/// As `guided` and without swaps, on so many zero bytes of memory and a store of zeros: the first calls
-/// store a world's descriptors, with translation off, then clean, drain and flush.
-pub fn guided_from_zeros(rng: &mut Rng, bytes: usize, length: usize, rules: Rules) -> Guided {
-    let (world, mut first) = zero_world(rng, bytes);
+/// As `guided` and without swaps, on so many zero bytes of memory with a map of this kind and a store of
+/// zeros: the first calls store a world's descriptors, with translation off, then clean, drain and flush.
+pub fn guided_from_zeros(
+    rng: &mut Rng,
+    bytes: usize,
+    map: Map,
+    length: usize,
+    rules: Rules,
+) -> Guided {
+    let (world, mut first) = zero_world(rng, bytes, map);
     let mut lines: Vec<_> = world.descriptors.iter().map(|at| at / 32).collect();
     lines.sort_unstable();
     lines.dedup();
@@ -48,7 +60,8 @@ fn guided_calls(
     length: usize,
     rules: Rules,
 ) -> (Vec<Call>, usize) {
-    let mut monitor = Monitor::start(proposer.world.memory.clone(), rules);
+    let World { memory, bad, .. } = proposer.world;
+    let mut monitor = Monitor::start(memory.clone(), bad.clone(), rules);
     proposer.queue.extend(first);
     proposer.opening(rng);
     let mut calls = Vec::with_capacity(first.len() + length + 64);
@@ -72,12 +85,12 @@ fn guided_calls(
     (calls, turned_down)
 }
 
-/// The run of these calls on a world's memory and store.
+/// The run of these calls on a world's memory, map and store.
 fn run_in(world: World, calls: Vec<Call>) -> Run {
-    let World { memory, store, .. } = world;
     Run {
-        memory,
-        store,
+        memory: world.memory,
+        bad: world.bad,
+        store: world.store,
         calls,
     }
 }
@@ -87,7 +100,7 @@ fn comply(rng: &mut Rng, proposer: &mut Proposer, monitor: &Monitor, part: Part,
     let mut calls = Vec::new();
     let mut queue = |call| calls.push(call);
     match part {
-        Part::R6Memory | Part::R6Equal => return,
+        Part::R6Memory | Part::R6Good | Part::R6Equal => return,
         Part::R5 => queue(Call::flush_tlb()),
         Part::R2Physical | Part::R2Virtual | Part::R3Whole => {
             for line in monitor.history.uncleaned() {
@@ -139,10 +152,10 @@ pub fn free(rng: &mut Rng, length: usize) -> Run {
     run_in(world, calls)
 }
 
-/// As `free` and without swaps, on so many zero bytes of memory and a store of zeros: the first calls
-/// store a world's descriptors, with translation off.
-pub fn free_from_zeros(rng: &mut Rng, bytes: usize, length: usize) -> Run {
-    let (world, first) = zero_world(rng, bytes);
+/// As `free` and without swaps, on so many zero bytes of memory with a map of this kind and a store of
+/// zeros: the first calls store a world's descriptors, with translation off.
+pub fn free_from_zeros(rng: &mut Rng, bytes: usize, map: Map, length: usize) -> Run {
+    let (world, first) = zero_world(rng, bytes, map);
     let proposer = Proposer::without_swaps(rng, &world);
     let calls = free_calls(rng, proposer, &first, length);
     run_in(world, calls)
@@ -158,8 +171,8 @@ fn free_calls(rng: &mut Rng, mut proposer: Proposer, first: &[Call], length: usi
 }
 
 /// A world whose memory and store are zero yet, and the stores that write its descriptors.
-fn zero_world(rng: &mut Rng, bytes: usize) -> (World, Vec<Call>) {
-    let mut world = world_of(rng, bytes);
+fn zero_world(rng: &mut Rng, bytes: usize, map: Map) -> (World, Vec<Call>) {
+    let mut world = world_with(rng, bytes, map);
     let mut places = world.descriptors.clone();
     places.sort_unstable();
     places.dedup();

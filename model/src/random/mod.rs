@@ -3,6 +3,7 @@
 pub mod damage;
 pub mod guided;
 pub mod longest;
+pub mod maps;
 pub mod proposals;
 pub mod rng;
 pub mod states;

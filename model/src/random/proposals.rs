@@ -148,14 +148,31 @@ impl<'a> Proposer<'a> {
         Call::store(width, address, store_value(rng, width))
     }
 
-    /// Any address, or one near the lines in use.
+    /// Any address, one near the lines in use, or one in or near a bad word.
     fn wild_access(&self, rng: &mut Rng) -> Call {
-        let address = match rng.below(3) {
+        let address = match rng.below(4) {
             0 => rng.word(),
             1 => self.line(rng) ^ 1 << rng.below(32),
-            _ => rng.below(self.world.memory.len() as u32 + 0x100),
+            2 => rng.below(self.world.memory.len() as u32 + 0x100),
+            _ => self.section(rng) << 20 | (self.bad_word(rng) ^ rng.below(8)),
         };
         self.access_at(rng, address)
+    }
+
+    /// A megabyte of virtual space that a section maps to physical 0, or megabyte 0.
+    fn section(&self, rng: &mut Rng) -> u32 {
+        match self.world.sections[..] {
+            [] => 0,
+            _ => rng.pick(&self.world.sections),
+        }
+    }
+
+    /// The physical address of a bad word, if one is found near a random place, or of any word.
+    fn bad_word(&self, rng: &mut Rng) -> u32 {
+        let bad = &self.world.bad;
+        let first = rng.below(bad.len() as u32) as usize;
+        let found = bad[first..].iter().take(100).position(|byte| *byte == 1);
+        4 * (first + found.unwrap_or(0)) as u32
     }
 
     fn line_operation(&self, rng: &mut Rng) -> Call {
@@ -176,7 +193,10 @@ impl<'a> Proposer<'a> {
             _ => {
                 // Translation off for some accesses, then on again.
                 for _ in 0..rng.below(6) {
-                    let address = rng.below(self.world.memory.len() as u32 + 0x40);
+                    let address = match rng.below(4) {
+                        0 => self.bad_word(rng) + rng.below(4),
+                        _ => rng.below(self.world.memory.len() as u32 + 0x40),
+                    };
                     let call = self.access_at(rng, address);
                     self.queue.push_back(call);
                 }
@@ -192,12 +212,7 @@ impl<'a> Proposer<'a> {
             return Call::drain();
         }
         let physical = rng.pick(&self.world.descriptors);
-        let megabyte = if self.world.sections.is_empty() {
-            0
-        } else {
-            rng.pick(&self.world.sections)
-        };
-        let address = megabyte << 20 | physical;
+        let address = self.section(rng) << 20 | physical;
         if rng.percent(85) {
             self.queue.push_back(Call::clean_line(address));
             self.queue.push_back(Call::drain());

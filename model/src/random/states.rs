@@ -42,6 +42,7 @@ pub fn sound_in(rng: &mut Rng, mut world: World) -> Sound {
         state,
         registers: registers(rng, &world),
         memory: world.memory.clone(),
+        bad: world.bad.clone(),
         store: world.store.clone(),
     };
     Sound { machine, world }

@@ -1,12 +1,14 @@
 //! Memories with page tables in them, and addresses worth using there.
 
+use super::maps::Map;
 use super::rng::Rng;
 use crate::words;
 
-/// A start's memory and store, and what a generator of calls wants to know of them.
+/// A start's memory and store, the map of bad words, and what a generator of calls wants to know of them.
 #[derive(Clone, Debug)]
 pub struct World {
     pub memory: Vec<u8>,
+    pub bad: Vec<u8>,
     pub store: Vec<u8>,
     /// Table bases worth writing.
     pub bases: Vec<u32>,
@@ -43,20 +45,33 @@ const LENGTHS: [usize; 24] = [
     0x20000, 0x40000,
 ];
 
-/// A random world of a random length.
+/// A random world of a random length, with a map of any kind.
 pub fn world(rng: &mut Rng) -> World {
-    let length = rng.pick(&LENGTHS);
-    world_of(rng, length)
+    let map = Map::random(rng);
+    mapped_world(rng, map)
 }
 
-/// A random world with memory of this length.
+/// A random world of a random length, with a map of this kind.
+pub fn mapped_world(rng: &mut Rng, map: Map) -> World {
+    let length = rng.pick(&LENGTHS);
+    world_with(rng, length, map)
+}
+
+/// A random world with memory of this length and a map of any kind.
 pub fn world_of(rng: &mut Rng, length: usize) -> World {
+    let map = Map::random(rng);
+    world_with(rng, length, map)
+}
+
+/// A random world with memory of this length and a map of this kind.
+pub fn world_with(rng: &mut Rng, length: usize, map: Map) -> World {
     let mut world = World {
         memory: if rng.percent(50) {
             rng.bytes(length)
         } else {
             vec![0; length]
         },
+        bad: Vec::new(),
         store: rng.bytes(crate::state::STORE_BYTES),
         bases: Vec::new(),
         lines: Vec::new(),
@@ -72,6 +87,7 @@ pub fn world_of(rng: &mut Rng, length: usize) -> World {
         world.map_megabytes(rng, base, &megabytes);
     }
     world.narrow_lines(rng);
+    world.bad = map.make(rng, length, &world.descriptors);
     world
 }
 

@@ -22,6 +22,16 @@ pub fn machine(length: usize, words: &[(usize, u32)], calls: &[Call]) -> Machine
     machine
 }
 
+/// As `machine`, with these words bad. The calls must be served all the same.
+pub fn bad_machine(length: usize, words: &[(usize, u32)], bad: &[u32], calls: &[Call]) -> Machine {
+    let mut machine = Machine::fresh(memory(length, words));
+    for physical in bad {
+        machine.bad[*physical as usize / 4] = 1;
+    }
+    serve(&mut machine, calls);
+    machine
+}
+
 /// Makes calls that must be served.
 pub fn serve(machine: &mut Machine, calls: &[Call]) {
     for call in calls {
@@ -57,6 +67,13 @@ pub fn user_store(width: u32, address: u32, value: u32) -> Call {
         address,
         value,
     }
+}
+
+/// The blocks of the buffer's entries, oldest first.
+pub fn blocks(m: &Machine) -> Vec<u32> {
+    let buffer = &m.state.buffer;
+    let slots = &buffer.slots[..buffer.entries as usize];
+    slots.iter().map(|slot| slot.block).collect()
 }
 
 pub fn signed_load(width: u32, address: u32) -> Call {
