@@ -2,11 +2,10 @@
 
 use crate::earlier::Earlier;
 use crate::measure::{Line, Side};
+use crate::runs::{list, run_line, List};
 use sa110_compare::full::{full, is_full, Tags, TAGS};
-use sa110_compare::numbers;
-use sa110_compare::side_by_side::{Numbers, Setting, Sides};
+use sa110_compare::side_by_side::{Numbers, Setting};
 use sa110_model::cache::address_of;
-use sa110_model::library::run;
 use sa110_model::random::Rng;
 use sa110_model::{words, Answer, Call, Machine};
 use std::cell::RefCell;
@@ -14,7 +13,7 @@ use std::hint::black_box;
 use std::rc::Rc;
 
 pub const WHAT: &str = "\
-run: one run over a list of 4,096 calls again and again, from where the run before it ended
+run: one run over a list of 4,096 calls again and again, from where the run before it ended; no word is bad
   hits: loads and stores of one line
   page hits: loads and stores of 512 lines in 32 small pages; TLB and Dcache hold them all
   random: loads of any line in 64 small pages, half of them with a store to the line behind; fills, evictions, walks
@@ -25,27 +24,26 @@ run: one run over a list of 4,096 calls again and again, from where the run befo
   swap misses: swaps of bytes and words anywhere in memory that is bufferable and not cacheable; the buffer is empty, memory is read and written
 call: loads and stores that hit, one call each, on the full caches of the soundness lines";
 
-/// So many calls are in a list for `run`, and in one for `call`.
-const RUN: usize = 4096;
+/// So many calls are in a list for `call`.
 const CALL: usize = 64;
 
 /// Level 1 words: sections of physical 0, cacheable and bufferable, bufferable, neither; then one of a
 /// domain without access; the last leads to the table of pages.
 const LEVEL1: [u32; 5] = [0xC0E, 0xC06, 0xC02, 0xC2E, PAGES | 1];
 const CACHED: u32 = 0;
-const BUFFERED: u32 = 1 << 20;
+pub const BUFFERED: u32 = 1 << 20;
 const UNCACHED: u32 = 2 << 20;
 const FORBIDDEN: u32 = 3 << 20;
-const PAGED: u32 = 4 << 20;
+pub const PAGED: u32 = 4 << 20;
 const UNMAPPED: u32 = 5 << 20;
 
 /// The table of pages: 64 small pages in a row from physical `DATA` on, cacheable and bufferable, and one
 /// that users may not access.
 const PAGES: u32 = 0x4000;
-const PAGE_COUNT: u32 = 64;
+pub const PAGE_COUNT: u32 = 64;
 const PRIVILEGED_PAGE: u32 = PAGED + PAGE_COUNT * 0x1000;
-const DATA: u32 = 0x10000;
-const MEMORY: u32 = DATA + (PAGE_COUNT + 1) * 0x1000;
+pub const DATA: u32 = 0x10000;
+pub const MEMORY: u32 = DATA + (PAGE_COUNT + 1) * 0x1000;
 
 pub fn lines(earlier: Option<Earlier>) -> Vec<Line> {
     let rng = &mut Rng::new(1);
@@ -63,27 +61,6 @@ pub fn lines(earlier: Option<Earlier>) -> Vec<Line> {
     let mut lines: Vec<_> = lists.collect();
     lines.extend(TAGS.map(|tags| call_line(rng, tags, earlier)));
     lines
-}
-
-/// A list of calls, and the machine that they are made on.
-struct List {
-    name: &'static str,
-    machine: Machine,
-    calls: Vec<Call>,
-}
-
-/// The first calls that `push` gives, on this machine.
-fn list(name: &'static str, machine: Machine, mut push: impl FnMut(&mut Vec<Call>)) -> List {
-    let mut calls = Vec::new();
-    while calls.len() < RUN {
-        push(&mut calls);
-    }
-    calls.truncate(RUN);
-    List {
-        name,
-        machine,
-        calls,
-    }
 }
 
 /// Loads and stores that hit one line.
@@ -203,7 +180,7 @@ fn access(rng: &mut Rng, line: u32) -> Call {
     Call::load(width, address)
 }
 
-fn store(rng: &mut Rng, line: u32) -> Call {
+pub fn store(rng: &mut Rng, line: u32) -> Call {
     let width = rng.pick(&[1, 2, 4]);
     let address = line + rng.below(32) / width * width;
     Call::store(width, address, value(rng, width))
@@ -220,7 +197,7 @@ fn value(rng: &mut Rng, width: u32) -> u32 {
 }
 
 /// A machine with the tables above that has served the calls.
-fn served(calls: &[Call]) -> Machine {
+pub fn served(calls: &[Call]) -> Machine {
     let mut memory = vec![0; MEMORY as usize];
     for (megabyte, word) in LEVEL1.iter().enumerate() {
         words::write(&mut memory, 4 * megabyte, 4, *word);
@@ -240,85 +217,6 @@ fn served(calls: &[Call]) -> Machine {
         );
     }
     machine
-}
-
-/// A line of `run` over a list.
-fn run_line(list: List, earlier: Option<Earlier>) -> Line {
-    let earlier = earlier.filter(|earlier| earlier.has(&list.calls));
-    let (name, calls) = (list.name, Rc::new(numbers(&list.calls)));
-    let mut answers = vec![0; RUN];
-    // library and model agree, and begin behind the first run
-    let before = Setting::of(&list.machine);
-    let mut sides = Sides::of(&before);
-    assert_eq!(sides.run(&calls, &mut answers), Ok(RUN), "{name}");
-    assert_eq!(sides.bytes(), Ok(()), "{name}");
-    if let Some(earlier) = earlier {
-        agrees(earlier, before, &calls, (&sides.proved, &answers), name);
-    }
-    let lent = Rc::new(RefCell::new((sides.proved, answers)));
-    Line {
-        name: name.to_string(),
-        calls: RUN,
-        library: run_side(&lent, &calls, |s, calls, answers| {
-            s.packed.run(&mut s.memory, &mut s.store, calls, answers)
-        }),
-        earlier: earlier.map(|earlier| {
-            run_side(&lent, &calls, move |s, calls, answers| {
-                earlier.run(s, calls, answers)
-            })
-        }),
-        model: model_side(sides.model, calls),
-    }
-}
-
-/// The model's runs of the calls.
-fn model_side(mut model: Machine, calls: Rc<Vec<u32>>) -> Side {
-    let mut answers = vec![0; RUN];
-    Box::new(move |turns| {
-        for _ in 0..turns {
-            let m = &mut model;
-            let ran = run(
-                &mut m.state,
-                &mut m.registers,
-                &mut m.memory,
-                &mut m.store,
-                black_box(&calls),
-                &mut answers,
-            );
-            assert_eq!(ran, Ok(()));
-            black_box(&mut answers);
-        }
-        assert!(model.state.counts.calls < u32::MAX);
-    })
-}
-
-/// The earlier library answers and leaves what the library does.
-fn agrees(earlier: Earlier, mut s: Setting, calls: &[u32], left: (&Setting, &[u64]), name: &str) {
-    let mut answers = vec![0; RUN];
-    assert_eq!(earlier.run(&mut s, calls, &mut answers), RUN, "{name}");
-    let same = answers == left.1
-        && s.packed == left.0.packed
-        && s.memory == left.0.memory
-        && s.store == left.0.store;
-    assert!(same, "{name}: the earlier library differs");
-}
-
-/// A library's runs of the calls. Both libraries have the same setting and answers lent.
-fn run_side(
-    lent: &Rc<RefCell<(Setting, Vec<u64>)>>,
-    calls: &Rc<Vec<u32>>,
-    run: impl Fn(&mut Setting, &[u32], &mut [u64]) -> usize + 'static,
-) -> Side {
-    let (lent, calls) = (Rc::clone(lent), Rc::clone(calls));
-    Box::new(move |turns| {
-        let (setting, answers) = &mut *lent.borrow_mut();
-        for _ in 0..turns {
-            let made = run(setting, black_box(&calls), answers);
-            assert_eq!(made, RUN);
-            black_box(&mut *answers);
-        }
-        assert!(setting.packed.state.counts.calls < u32::MAX);
-    })
 }
 
 /// A line of `call` on a full cache: loads and stores that hit.
@@ -341,9 +239,7 @@ fn call_line(rng: &mut Rng, tags: Tags, earlier: Option<Earlier>) -> Line {
     Line {
         name: name.to_string(),
         calls: CALL,
-        library: call_side(&lent, &list, |s, numbers| {
-            s.packed.call(&mut s.memory, &mut s.store, numbers)
-        }),
+        library: call_side(&lent, &list, |s, numbers| s.call(numbers)),
         earlier: earlier
             .map(|earlier| call_side(&lent, &list, move |s, numbers| earlier.call(s, numbers))),
         model: Box::new(move |turns| {

@@ -1,5 +1,6 @@
 //! An earlier library, out of a shared object, called as the linked one is.
 
+use crate::interface::Interface;
 use crate::replay::Part;
 use crate::text;
 use sa110_compare::packed::{Cp15, Packed, State};
@@ -18,45 +19,7 @@ extern "C" {
 /// RTLD_NOW of Linux; without RTLD_GLOBAL nothing else is bound to the object's symbols.
 const NOW: c_int = 2;
 
-type Call = unsafe extern "C" fn(
-    *mut State,
-    *mut Cp15,
-    *mut u8,
-    usize,
-    *mut u8,
-    usize,
-    u32,
-    u32,
-    u32,
-    u32,
-    u32,
-) -> u64;
-type Run = unsafe extern "C" fn(
-    *mut State,
-    *mut Cp15,
-    *mut u8,
-    usize,
-    *mut u8,
-    usize,
-    *const u32,
-    usize,
-    *mut u64,
-    usize,
-) -> usize;
 type Sound = unsafe extern "C" fn(*const State, *const Cp15, usize) -> u32;
-type Replay = unsafe extern "C" fn(
-    *mut sa110::Replay,
-    *mut u8,
-    usize,
-    *mut u8,
-    usize,
-    *const u8,
-    usize,
-    u32,
-    *mut u8,
-    usize,
-) -> u32;
-
 type StoreText =
     unsafe extern "C" fn(*const State, *const Cp15, *const u8, usize, *mut u8, usize) -> u64;
 type ReadText =
@@ -66,10 +29,8 @@ type ReadText =
 /// include/sa110.h.
 #[derive(Clone, Copy)]
 pub struct Earlier {
-    call: Call,
-    run: Run,
+    interface: Interface,
     sound: Option<Sound>,
-    replay: Option<Replay>,
     store_text: Option<StoreText>,
     read_text: Option<ReadText>,
 }
@@ -107,10 +68,8 @@ impl Earlier {
         let read_text = symbol(c"sa110_read_text");
         Ok(unsafe {
             Earlier {
-                call: transmute::<*mut c_void, Call>(call),
-                run: transmute::<*mut c_void, Run>(run),
+                interface: Interface::of(call, run, replay),
                 sound: sound.map(|f| transmute::<*mut c_void, Sound>(f)),
-                replay: replay.map(|f| transmute::<*mut c_void, Replay>(f)),
                 store_text: store_text.map(|f| transmute::<*mut c_void, StoreText>(f)),
                 read_text: read_text.map(|f| transmute::<*mut c_void, ReadText>(f)),
             }
@@ -125,21 +84,7 @@ impl Earlier {
 
     /// The replay of a part of a text, where the library has it.
     pub fn replay(&self) -> Option<Box<Part>> {
-        let replay = self.replay?;
-        Some(Box::new(move |r, memory, store, text, ends, out| unsafe {
-            replay(
-                r,
-                memory.as_mut_ptr(),
-                memory.len(),
-                store.as_mut_ptr(),
-                store.len(),
-                text.as_ptr(),
-                text.len(),
-                ends.into(),
-                out.as_mut_ptr(),
-                out.len(),
-            )
-        }))
+        self.interface.replay()
     }
 
     /// Storing a state as text, where the library has it.
@@ -184,46 +129,19 @@ impl Earlier {
         }))
     }
 
-    /// Whether it has calls of all these kinds.
-    pub fn has(&self, calls: &[sa110_model::Call]) -> bool {
+    /// Whether it has calls of all these kinds, and takes a map if words are bad.
+    pub fn has(&self, calls: &[sa110_model::Call], bad: &[u8]) -> bool {
         let mut fresh = Setting::of(&Machine::fresh(Vec::new()));
         let mut calls = calls.iter();
         calls.all(|call| self.call(&mut fresh, &call.to_numbers()) != NO_CALL)
+            && (self.interface.takes_map() || !bad.contains(&1))
     }
 
     pub fn call(&self, s: &mut Setting, numbers: &Numbers) -> u64 {
-        let [kind, privileged, n, a, v] = *numbers;
-        unsafe {
-            (self.call)(
-                &mut s.packed.state,
-                &mut s.packed.cp15,
-                s.memory.as_mut_ptr(),
-                s.memory.len(),
-                s.store.as_mut_ptr(),
-                s.store.len(),
-                kind,
-                privileged,
-                n,
-                a,
-                v,
-            )
-        }
+        self.interface.call(s, numbers)
     }
 
     pub fn run(&self, s: &mut Setting, calls: &[u32], answers: &mut [u64]) -> usize {
-        unsafe {
-            (self.run)(
-                &mut s.packed.state,
-                &mut s.packed.cp15,
-                s.memory.as_mut_ptr(),
-                s.memory.len(),
-                s.store.as_mut_ptr(),
-                s.store.len(),
-                calls.as_ptr(),
-                calls.len(),
-                answers.as_mut_ptr(),
-                answers.len(),
-            )
-        }
+        self.interface.run(s, calls, answers)
     }
 }

@@ -1,10 +1,13 @@
 //! Prints a table of times: the proved library beside the second model and, where one is named, an earlier library, measured in turn in one
 //! process.
 
+mod bad_words;
 mod calls;
 mod earlier;
+mod interface;
 mod measure;
 mod replay;
+mod runs;
 mod soundness;
 mod text;
 
@@ -14,17 +17,20 @@ use measure::{earlier_columns, earlier_names, measure, Line, Measured};
 const ROUNDS: usize = 1000;
 
 const HOW: &str = "\
-use: cargo run --release --offline [-- [replay | text] ROUNDS [EARLIER.so]]
+use: cargo run --release --offline [-- [bad | replay | text] ROUNDS [EARLIER.so]]
+  bad         only runs with bad words and the test of the map are measured
   replay      only the replay of traces is measured
   text        only states as text are measured
   ROUNDS      how often each side is measured, at least 1; 1000 if left out
-  EARLIER.so  a shared object of an earlier library, which is measured too; one of the library itself shows what linking alone does
+  EARLIER.so  a shared object of an earlier library, which is measured too, with a map of bad words or, before there was one, without; one of the
+              library itself shows what linking alone does
 tools/library writes the library that is measured. A static library becomes a shared object by
   gcc -shared -o EARLIER.so -Wl,--whole-archive libsa110.a -Wl,--no-whole-archive";
 
 const WHAT: &str = "\
 library: the proved library, called through its functions for C. model: the second model, in Rust.
-earlier: the library in the shared object, where one is named, lent the same state; - where it has no such function or call.
+earlier: the library in the shared object, where one is named, lent the same state, and the map if it takes one; - where it has no such
+  function or call, or takes no map and words are bad.
 ns a call: processor time of the one thread, least of the rounds (median). ratio: library / model and library / earlier, by the least.
 soundness: the test of refusal 3 on one sound state again and again, 512 lines, 32 TLB entries, 8 buffer entries, 64 KB of memory; the library
   compares all tags of a set, four at a time, wherever the lines lie, and the model two only if they agree in their low six bits
@@ -35,7 +41,7 @@ soundness: the test of refusal 3 on one sound state again and again, 512 lines, 
 
 fn main() {
     let mut arguments = std::env::args().skip(1).peekable();
-    let only = arguments.next_if(|first| first == "replay" || first == "text");
+    let only = arguments.next_if(|first| ["bad", "replay", "text"].contains(&first.as_str()));
     let (rounds, earlier) = match asked(arguments) {
         Ok(asked) => asked,
         Err(wrong) => {
@@ -44,10 +50,13 @@ fn main() {
         }
     };
     match only.as_deref() {
+        Some("bad") => bad_words(rounds, earlier),
         Some("replay") => replays(rounds, earlier),
         Some(_) => print_rows(text::lines(earlier), text::WHAT, rounds, earlier.is_some()),
         None => {
             calls(rounds, earlier);
+            bad_words(rounds, earlier);
+            println!();
             replays(rounds, earlier);
         }
     }
@@ -77,6 +86,14 @@ fn print_rows(mut lines: Vec<Line>, what: &str, rounds: usize, named: bool) {
         let measured = measure(line, rounds);
         println!("{}", row(&line.name, &measured, named));
     }
+}
+
+/// Prints the table of runs with bad words and of the test of the map.
+fn bad_words(rounds: usize, earlier: Option<Earlier>) {
+    let what = format!("{}\n{}", bad_words::WHAT, bad_words::MAP);
+    let named = earlier.is_some();
+    print_rows(bad_words::lines(earlier), &what, rounds, named);
+    bad_words::print_map_rows(rounds, earlier, |name, times| row(name, times, named));
 }
 
 /// Prints the table of replays.

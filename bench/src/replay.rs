@@ -15,7 +15,7 @@ use std::path::{Path, PathBuf};
 use std::rc::Rc;
 
 pub const WHAT: &str = "\
-replay: a text of 16,384 lines again and again, each time on a fresh machine with 65,536 zero bytes; ns a line
+replay: a text of 16,384 lines again and again, each time on a fresh machine with 65,536 zero bytes and no bad words; ns a line
   library, model: the text is a temporary file, read in blocks of 65,536 bytes; what is printed goes to another temporary file, overwritten
     from its front, in blocks of about 65,536 bytes. The library replays through sa110_replay; the model by read_until, split, parse, writeln
   earlier: as library, through the shared object's sa110_replay, where one is named; - where it has none
@@ -37,9 +37,10 @@ const BATCH: usize = 1_024;
 const PAGES: u32 = 0x4000;
 const DATA: u32 = 0x5000;
 
-/// A library's replay of a part of a text: record, memory, store, the part, whether the text ends with it, and
-/// the slice for what is printed.
-pub type Part = dyn Fn(&mut sa110::Replay, &mut [u8], &mut [u8], &[u8], bool, &mut [u8]) -> u32;
+/// A library's replay of a part of a text: record, memory, map, store, the part, whether the text ends with it,
+/// and the slice for what is printed. A library without a map leaves it out.
+pub type Part =
+    dyn Fn(&mut sa110::Replay, &mut [u8], &[u8], &mut [u8], &[u8], bool, &mut [u8]) -> u32;
 
 /// Prints a row for each text, with the columns of an earlier library where one is named.
 pub fn print_rows(rounds: usize, earlier: Option<Earlier>) -> io::Result<()> {
@@ -242,6 +243,7 @@ fn by_model(input: &Path, output: &mut File) -> io::Result<()> {
 /// What a library's replay is lent, and blocks for input and output. Both libraries have the same.
 struct Library {
     memory: Vec<u8>,
+    bad: Vec<u8>,
     store: Vec<u8>,
     block: Vec<u8>,
     out: Vec<u8>,
@@ -252,6 +254,7 @@ impl Library {
     fn new() -> Library {
         Library {
             memory: vec![0; MEMORY_BYTES],
+            bad: sa110::no_bad_words(MEMORY_BYTES),
             store: vec![0; sa110::STORE_BYTES],
             block: vec![0; BLOCK],
             out: vec![0; BLOCK + BATCH * sa110::PRINTED_LINE],
@@ -262,6 +265,7 @@ impl Library {
     fn replay(&mut self, part: &Part, input: &Path, output: &mut File) -> io::Result<()> {
         let Library {
             memory,
+            bad,
             store,
             block,
             out,
@@ -277,7 +281,8 @@ impl Library {
             let mut text = &block[..length];
             loop {
                 let (ends, room) = (length == 0, &mut out[filled..]);
-                assert_eq!(part(&mut replay, memory, store, text, ends, room), 0);
+                let answer = part(&mut replay, memory, bad, store, text, ends, room);
+                assert_eq!(answer, 0);
                 text = &text[replay.taken..];
                 filled += replay.written;
                 // as long as there is room for what one call may print
@@ -310,6 +315,7 @@ impl Library {
 /// The library's run over calls that are parsed.
 struct Run {
     memory: Vec<u8>,
+    bad: Vec<u8>,
     store: Vec<u8>,
     packed: Packed,
     calls: Vec<u32>,
@@ -320,6 +326,7 @@ impl Run {
     fn new(calls: Vec<u32>) -> Run {
         Run {
             memory: vec![0; MEMORY_BYTES],
+            bad: sa110::no_bad_words(MEMORY_BYTES),
             store: vec![0; sa110::STORE_BYTES],
             packed: Packed::ZERO,
             calls,
@@ -329,12 +336,13 @@ impl Run {
 
     /// Runs the calls from a start, and tells each batch's answers.
     fn each(&mut self, mut tell: impl FnMut(&[u64])) {
-        let (memory, store) = (&mut self.memory, &mut self.store);
+        let (memory, bad, store) = (&mut self.memory, &self.bad, &mut self.store);
         memory.fill(0);
         store.fill(0);
         self.packed = Packed::start(memory, store).0;
         for calls in black_box(&self.calls).chunks(BATCH * sa110::FIELDS) {
-            let made = self.packed.run(memory, store, calls, &mut self.answers);
+            let answers = &mut self.answers;
+            let made = self.packed.run(memory, bad, store, calls, answers);
             assert_eq!(made * sa110::FIELDS, calls.len());
             tell(&self.answers[..made]);
         }

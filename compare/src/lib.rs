@@ -1,14 +1,19 @@
 //! The proved library beside the second model. The crate `sa110` (bindings/rust) wraps the library's
-//! exported functions.
+//! exported functions. Both sides have memory lent with the same map of bad words.
 
+pub mod cuts;
 pub mod damage;
 pub mod full;
+pub mod lists;
 pub mod met;
 pub mod packed;
+pub mod printed;
 pub mod replays;
+mod report;
 pub mod side_by_side;
 pub mod sound;
 pub mod texts;
+pub mod traces;
 
 pub use sa110::{plain_run, right, walk, PlainRan, NO_CALL};
 use sa110_model::Call;

@@ -1,9 +1,14 @@
 //! How often each kind of call, answer and look was compared.
 
-use crate::side_by_side::Numbers;
+use crate::side_by_side::{refused, Numbers};
 use crate::NO_CALL;
 use sa110::Look;
 use sa110_model::answers::STATUSES;
+use sa110_model::bus::{Bus, Word, LINE_WORDS, WORD_BYTES};
+use sa110_model::refusals::BAD_MAP;
+use sa110_model::registers::M;
+use sa110_model::walk::walk;
+use sa110_model::Machine;
 
 /// The kinds of call, by their numbers.
 const KINDS: [&str; 6] = [
@@ -15,24 +20,60 @@ const KINDS: [&str; 6] = [
     "swap",
 ];
 
+/// What looks find.
+const LOOKS: [&str; 6] = [
+    "nowhere",
+    "nowhere, refusal 16",
+    "nowhere, a bad word in the walk",
+    "cache store",
+    "memory",
+    "memory, a bad word in the line",
+];
+
 #[derive(Clone, Default)]
 pub struct Met {
     pub calls: u64,
     kinds: [u64; KINDS.len()],
     statuses: [u64; 16],
-    refusals: [u64; 13],
+    refusals: [u64; BAD_MAP as usize + 1],
     no_calls: u64,
-    /// Looks that found nothing, a line of the cache store, a line of memory.
-    looks: [u64; 3],
+    looks: [u64; LOOKS.len()],
+}
+
+/// Which of `LOOKS` a look at an address is.
+fn look_kind(m: &Machine, va: u32, found: Look) -> usize {
+    match found {
+        Look::OfStore(_) => 3,
+        Look::OfMemory(at) => {
+            let line = &m.bad[at / WORD_BYTES..][..LINE_WORDS];
+            if line.contains(&1) {
+                5
+            } else {
+                4
+            }
+        }
+        Look::Nowhere => match refused(m) {
+            Some(BAD_MAP) => 1,
+            None if walks_to_a_bad_word(m, va) => 2,
+            _ => 0,
+        },
+    }
+}
+
+fn walks_to_a_bad_word(m: &Machine, va: u32) -> bool {
+    let bus = Bus {
+        memory: &m.memory,
+        bad: &m.bad,
+    };
+    let plain = &m.registers.plain;
+    let aborted = walk(bus, plain.table_base, va).aborted;
+    plain.has(M) && aborted.is_some_and(|at| bus.word(at) == Word::Bad)
 }
 
 impl Met {
-    pub fn note_look(&mut self, found: Look) {
-        self.looks[match found {
-            Look::Nowhere => 0,
-            Look::OfStore(_) => 1,
-            Look::OfMemory(_) => 2,
-        }] += 1;
+    /// Takes note of what a look at an address finds.
+    pub fn note_look(&mut self, machine: &Machine, va: u32, found: Look) {
+        self.looks[look_kind(machine, va, found)] += 1;
     }
 
     /// Takes note of five numbers and what they are answered with.
@@ -66,14 +107,14 @@ impl Met {
         let kinds = KINDS.iter().zip(self.kinds);
         let mut rows: Vec<_> = kinds.map(|(name, n)| (name.to_string(), n)).collect();
         rows.push(("numbers that are no call".to_string(), self.no_calls));
-        for number in 1..=12 {
+        for number in (1..=12).chain([BAD_MAP as usize]) {
             rows.push((format!("refusal {number}"), self.refusals[number]));
         }
         for status in STATUSES {
             let number = status as usize;
             rows.push((format!("fault status {number}"), self.statuses[number]));
         }
-        for (place, count) in ["nowhere", "cache store", "memory"].iter().zip(self.looks) {
+        for (place, count) in LOOKS.iter().zip(self.looks) {
             rows.push((format!("look, {place}"), count));
         }
         rows

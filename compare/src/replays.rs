@@ -1,12 +1,13 @@
 //! The library's replay of a text in parts, beside the second model's of the whole: what they print and
 //! what they leave.
 
+use crate::cuts::Cuts;
 use crate::packed::{OfModel, Packed};
+use crate::printed::Printed;
 use crate::shrunk;
-use sa110::{Replay, PRINTED_LINE, STORE_BYTES};
-use sa110_model::answers::STATUSES;
+use sa110::{no_bad_words, Replay, PRINTED_LINE, STORE_BYTES};
 use sa110_model::random::Rng;
-use sa110_model::replay::{call_of, replay_on, Replayed, MEMORY_BYTES};
+use sa110_model::replay::{replay_on, Replayed, MEMORY_BYTES};
 use sa110_model::Machine;
 use std::fmt;
 
@@ -15,22 +16,25 @@ use std::fmt;
 pub struct Begin {
     pub replay: Box<Replay>,
     pub memory: Vec<u8>,
+    /// The map of bad words.
+    pub bad: Vec<u8>,
     pub store: Vec<u8>,
 }
 
 impl Begin {
-    /// A replay that has not begun, on 65,536 zero bytes.
+    /// A replay that has not begun, on 65,536 zero bytes without bad words.
     pub fn fresh() -> Begin {
         Begin::of(MEMORY_BYTES)
     }
 
-    /// A replay that has not begun, on so many zero bytes.
+    /// A replay that has not begun, on so many zero bytes without bad words.
     pub fn of(bytes: usize) -> Begin {
         let (memory, store) = (vec![0; bytes], vec![0; STORE_BYTES]);
         let replay = Replay::start(&memory, &store).expect("a served start");
         Begin {
             replay,
             memory,
+            bad: no_bad_words(bytes),
             store,
         }
     }
@@ -53,6 +57,7 @@ impl Begin {
             state: Box::new(state),
             registers,
             memory: self.memory.clone(),
+            bad: self.bad.clone(),
             store: self.store.clone(),
         }
     }
@@ -90,109 +95,6 @@ struct Expected {
     store: Vec<u8>,
 }
 
-/// How a text is cut into parts.
-#[derive(Clone, Copy, Debug, PartialEq, Eq)]
-pub enum Parts {
-    Whole,
-    Bytes,
-    /// One cut behind so many bytes.
-    At(usize),
-    /// Any lengths up to this.
-    UpTo(u32),
-}
-
-/// How long the slices for what is printed are.
-#[derive(Clone, Copy, Debug, PartialEq, Eq)]
-pub enum Rooms {
-    Of(usize),
-    /// 0, 1, 33, 34, 35 and some more.
-    Few,
-    /// Any lengths up to this.
-    UpTo(u32),
-}
-
-/// How a replay is fed; everything follows from the seed.
-#[derive(Clone, Copy, Debug, PartialEq, Eq)]
-pub struct Cuts {
-    pub seed: u64,
-    pub parts: Parts,
-    pub rooms: Rooms,
-    /// Parts of 0 bytes and slices of 0 bytes come now and then.
-    pub empty: bool,
-    /// The text's end is told by an empty part behind the last.
-    pub late: bool,
-}
-
-impl Cuts {
-    pub const WHOLE: Cuts = Cuts {
-        seed: 0,
-        parts: Parts::Whole,
-        rooms: Rooms::Of(LONGEST),
-        empty: false,
-        late: false,
-    };
-
-    /// Random cuts of a text of so many bytes; a long one is mostly cut into longer parts.
-    pub fn random(rng: &mut Rng, length: usize) -> Cuts {
-        let all = length < 2_000 || length < 30_000 && rng.percent(5);
-        let short = [Parts::Bytes, Parts::UpTo(3), Parts::UpTo(40)];
-        let long = [Parts::Whole, Parts::UpTo(500), Parts::UpTo(70_000)];
-        let parts = if all && rng.percent(60) {
-            rng.pick(&short)
-        } else {
-            rng.pick(&long)
-        };
-        let few = [Rooms::Of(1), Rooms::UpTo(100)];
-        let some = [
-            Rooms::Of(33),
-            Rooms::Of(34),
-            Rooms::Of(35),
-            Rooms::Few,
-            Rooms::UpTo(2_000),
-        ];
-        let many = [Rooms::Of(LONGEST), Rooms::UpTo(LONGEST as u32)];
-        let rooms = match rng.below(10) {
-            0..=2 if all => rng.pick(&few),
-            3..=5 if long.contains(&parts) => rng.pick(&many),
-            _ => rng.pick(&some),
-        };
-        Cuts {
-            seed: rng.draw(),
-            parts,
-            rooms,
-            empty: rng.percent(60),
-            late: rng.percent(50),
-        }
-    }
-
-    fn part(&self, rng: &mut Rng, at: usize, rest: usize) -> usize {
-        if self.empty && rng.percent(10) {
-            return 0;
-        }
-        let length = match self.parts {
-            Parts::Whole => rest,
-            Parts::Bytes => 1,
-            Parts::At(cut) if at < cut => cut - at,
-            Parts::At(_) => rest,
-            Parts::UpTo(most) => 1 + rng.below(most) as usize,
-        };
-        length.min(rest)
-    }
-
-    fn room(&self, rng: &mut Rng) -> usize {
-        if self.empty && rng.percent(10) {
-            return 0;
-        }
-        match self.rooms {
-            Rooms::Of(length) => length,
-            Rooms::Few => rng.pick(&[0, 1, 2, 12, 33, 34, 35, 40, 67, 68, 69, 1024 * 34]),
-            Rooms::UpTo(most) => 1 + rng.below(most) as usize,
-        }
-    }
-}
-
-/// The longest slice for what is printed.
-const LONGEST: usize = 65_536;
 /// One call replays so many lines at most.
 const LINES_A_CALL: usize = 1_024;
 /// So many bytes behind the slice are watched too.
@@ -249,6 +151,7 @@ impl Fed<'_> {
         let Begin {
             replay,
             memory,
+            bad,
             store,
         } = &mut self.left;
         self.calls += 1;
@@ -258,7 +161,7 @@ impl Fed<'_> {
         if out.len() < room + BEHIND {
             out.resize(room + BEHIND, self.mark);
         }
-        let answer = replay.part(memory, store, text, ends, &mut out[..room]);
+        let answer = replay.part(memory, bad, store, text, ends, &mut out[..room]);
         let (taken, written) = (replay.taken, replay.written);
         if let Some(log) = &mut self.log {
             let (n, end) = (text.len(), if ends { ", ends" } else { "" });
@@ -371,82 +274,6 @@ impl Fed<'_> {
             (left.store != expected.store).then(|| "store".to_string()),
         ];
         parts.into_iter().flatten().next()
-    }
-}
-
-/// How often each kind of answer was printed.
-#[derive(Clone, Default)]
-pub struct Printed {
-    /// Loads, signed loads, stores, CP15 reads and writes.
-    served: [u64; 5],
-    /// Signed loads with a minus sign.
-    negative: u64,
-    statuses: [u64; 16],
-    refusals: [u64; 14],
-    /// Swaps, which depart from the form.
-    swaps: u64,
-}
-
-impl Printed {
-    /// Takes note of a text's lines and what they print.
-    fn note(&mut self, text: &[u8], output: &[u8]) {
-        let lines = text.split_inclusive(|byte| *byte == b'\n');
-        for (line, printed) in lines.zip(output.split(|byte| *byte == b'\n')) {
-            let printed = std::str::from_utf8(printed).expect("printed text");
-            let fields: Vec<_> = printed.split(',').collect();
-            let [_, kind, value] = fields[..] else {
-                continue; // behind a line that departs from the form
-            };
-            let value: i64 = value.parse().expect("a printed number");
-            match (kind, call_of(line)) {
-                ("0", _) if value < 0 => self.negative += 1,
-                ("0", Some(call)) => self.served[call.to_numbers()[0] as usize] += 1,
-                ("0", None) => panic!("no call is served"),
-                ("1", _) => self.statuses[value as usize % 16] += 1,
-                _ => self.refusals[value as usize] += 1,
-            }
-            if line.starts_with(b"5,") {
-                assert_eq!((kind, value), ("2", 13), "a line with kind 5");
-                self.swaps += 1;
-            }
-        }
-    }
-
-    fn rows(&self) -> Vec<(String, u64)> {
-        let names = [
-            "load served",
-            "signed load served, not negative",
-            "store served",
-            "read served",
-            "write served",
-        ];
-        let served = names.iter().zip(self.served);
-        let mut rows: Vec<_> = served.map(|(name, n)| (name.to_string(), n)).collect();
-        rows.push(("signed load served, negative".to_string(), self.negative));
-        for number in 1..=13 {
-            rows.push((format!("refusal {number}"), self.refusals[number]));
-        }
-        rows.push(("refusal 13 of a line with kind 5".to_string(), self.swaps));
-        for status in STATUSES {
-            let number = status as usize;
-            rows.push((format!("fault status {number}"), self.statuses[number]));
-        }
-        rows
-    }
-
-    /// The kinds of answer that were never printed.
-    pub fn missing(&self) -> Vec<String> {
-        let rows = self.rows().into_iter();
-        rows.filter(|row| row.1 == 0).map(|row| row.0).collect()
-    }
-}
-
-impl fmt::Display for Printed {
-    fn fmt(&self, out: &mut fmt::Formatter) -> fmt::Result {
-        for (name, count) in self.rows() {
-            writeln!(out, "{count:>10}  {name}")?;
-        }
-        Ok(())
     }
 }
 

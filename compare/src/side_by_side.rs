@@ -3,15 +3,16 @@
 
 use crate::met::Met;
 use crate::packed::{OfModel, Packed};
-use crate::{shrunk, NO_CALL};
+use crate::report::report;
+use crate::NO_CALL;
 use sa110::{Look, LINE_BYTES};
 use sa110_model::calls::FIELDS;
 use sa110_model::coverage::{Coverage, Unwatched, Watch};
 use sa110_model::library::{self, RunError};
 use sa110_model::refusals;
+use sa110_model::term3::Run;
 use sa110_model::{Answer, Call, Machine};
 use std::fmt;
-use std::fmt::Write;
 
 /// A call in five numbers, or numbers that are no call.
 pub type Numbers = [u32; FIELDS];
@@ -21,6 +22,8 @@ pub type Numbers = [u32; FIELDS];
 pub struct Setting {
     pub packed: Packed,
     pub memory: Vec<u8>,
+    /// The map of bad words.
+    pub bad: Vec<u8>,
     pub store: Vec<u8>,
 }
 
@@ -29,12 +32,13 @@ impl Setting {
         Setting {
             packed: Packed::of(&machine.state, &machine.registers),
             memory: machine.memory.clone(),
+            bad: machine.bad.clone(),
             store: machine.store.clone(),
         }
     }
 
-    /// What a start leaves, refused or not. Both sides' starts are compared.
-    pub fn start(memory: Vec<u8>, store: Vec<u8>) -> Setting {
+    /// What a start leaves, refused or not, with this map. Both sides' starts are compared.
+    pub fn start(memory: Vec<u8>, bad: Vec<u8>, store: Vec<u8>) -> Setting {
         let (packed, refusal) = Packed::start(&memory, &store);
         let started = library::start(&memory, &store);
         let lengths = format!(
@@ -48,8 +52,26 @@ impl Setting {
         Setting {
             packed,
             memory,
+            bad,
             store,
         }
+    }
+
+    /// What a start leaves for a run.
+    pub fn of_run(run: &Run) -> Setting {
+        Setting::start(run.memory.clone(), run.bad.clone(), run.store.clone())
+    }
+
+    /// A call on the library; gives the answer's code.
+    pub fn call(&mut self, numbers: &Numbers) -> u64 {
+        let (memory, store) = (&mut self.memory, &mut self.store);
+        self.packed.call(memory, &self.bad, store, numbers)
+    }
+
+    /// A run on the library; gives how many calls it made.
+    pub fn run(&mut self, calls: &[u32], answers: &mut [u64]) -> usize {
+        let (memory, store) = (&mut self.memory, &mut self.store);
+        self.packed.run(memory, &self.bad, store, calls, answers)
     }
 
     fn machine(&self) -> Machine {
@@ -58,6 +80,7 @@ impl Setting {
             state: Box::new(state),
             registers,
             memory: self.memory.clone(),
+            bad: self.bad.clone(),
             store: self.store.clone(),
         }
     }
@@ -80,8 +103,7 @@ impl Sides {
     /// A call on both sides; gives the answer's code, or what differs.
     pub fn call<T: Watch>(&mut self, numbers: &Numbers, watch: &mut T) -> Result<u64, String> {
         let before = self.proved.packed.clone();
-        let p = &mut self.proved;
-        let code = p.packed.call(&mut p.memory, &mut p.store, numbers);
+        let code = self.proved.call(numbers);
         let (expected, left) = match Call::from_numbers(numbers) {
             None => (NO_CALL, before),
             Some(call) => {
@@ -109,18 +131,9 @@ impl Sides {
         let n = (calls.len() / FIELDS).min(answers.len());
         let mut expected = answers.to_vec();
         let before = self.proved.packed.clone();
-        let p = &mut self.proved;
-        let made = p.packed.run(&mut p.memory, &mut p.store, calls, answers);
-        let m = &mut self.model;
-        let refused = refusals::of_lent(&m.state, &m.registers, m.memory.len(), m.store.len());
-        let ran = library::run(
-            &mut m.state,
-            &mut m.registers,
-            &mut m.memory,
-            &mut m.store,
-            &calls[..n * FIELDS],
-            &mut expected[..n],
-        );
+        let made = self.proved.run(calls, answers);
+        let refused = refused(&self.model);
+        let ran = self.model.run(&calls[..n * FIELDS], &mut expected[..n]);
         let expected_made = match ran {
             Ok(()) => n,
             Err(RunError::NotACall(i)) => i,
@@ -145,7 +158,7 @@ impl Sides {
     /// A look on both sides; gives what it finds, or what differs.
     pub fn look(&self, va: u32) -> Result<Look, String> {
         let (p, m) = (&self.proved, &self.model);
-        let found = p.packed.look(&p.memory, &p.store, va);
+        let found = p.packed.look(&p.memory, &p.bad, &p.store, va);
         let expected = place(m.look(va), &m.memory, &m.store);
         if found != expected {
             return Err(format!(
@@ -155,11 +168,12 @@ impl Sides {
         Ok(found)
     }
 
-    /// Compares memory and store.
+    /// Compares memory, map and store.
     pub fn bytes(&self) -> Result<(), String> {
         let (p, m) = (&self.proved, &self.model);
         let pairs = [
             ("memory at", &p.memory, &m.memory),
+            ("map at", &p.bad, &m.bad),
             ("store at", &p.store, &m.store),
         ];
         for (name, proved, model) in pairs {
@@ -173,6 +187,12 @@ impl Sides {
     fn packed_model(&self) -> Packed {
         Packed::of(&self.model.state, &self.model.registers)
     }
+}
+
+/// The refusal of the lent things, by the second model.
+pub(crate) fn refused(m: &Machine) -> Option<u32> {
+    let (memory, store) = (m.memory.len(), m.store.len());
+    refusals::of_lent(&m.state, &m.registers, memory, &m.bad, store)
 }
 
 /// Where the part lies that a look of the second model shows.
@@ -300,7 +320,8 @@ fn by_call<T: Watch>(
         }
         met.note(numbers, code);
         if i % 2 == 0 {
-            met.note_look(sides.look(looked_at(numbers)).map_err(said)?);
+            let va = looked_at(numbers);
+            met.note_look(&sides.model, va, sides.look(va).map_err(said)?);
         }
     }
     sides.bytes()?;
@@ -330,8 +351,9 @@ fn by_runs(setting: &Setting, calls: &[Numbers], piece: usize, met: &mut Met) ->
                 return Some(said(what));
             }
         }
-        match sides.look(looked_at(&part[part.len() - 1])) {
-            Ok(found) => met.note_look(found),
+        let va = looked_at(&part[part.len() - 1]);
+        match sides.look(va) {
+            Ok(found) => met.note_look(&sides.model, va, found),
             Err(what) => return Some(said(what)),
         }
         for (numbers, code) in part.iter().zip(&answers[..made]) {
@@ -345,64 +367,4 @@ fn by_runs(setting: &Setting, calls: &[Numbers], piece: usize, met: &mut Met) ->
         }
     }
     sides.bytes().err()
-}
-
-/// Shrinks a difference, and panics with what is left of it.
-fn report(
-    name: String,
-    setting: &Setting,
-    calls: &[Numbers],
-    differs: &dyn Fn(&Setting, &[Numbers]) -> Option<String>,
-) -> ! {
-    let calls = shrunk(calls, |calls| differs(setting, calls).is_some());
-    let setting = zeroed(setting, |setting| differs(setting, &calls).is_some());
-    let what = differs(&setting, &calls).unwrap_or_default();
-    let mut text = format!("{name}\n{what}\nall numbers hexadecimal; ");
-    list(&mut text, &setting, &calls).expect("text is written");
-    panic!("{text}");
-}
-
-/// Zeroes pieces of memory that the difference does not need, if memory is not too long for that.
-fn zeroed(setting: &Setting, differs: impl Fn(&Setting) -> bool) -> Setting {
-    let mut kept = setting.clone();
-    if kept.memory.len() > 0x40000 {
-        return kept;
-    }
-    for size in [1024, 4] {
-        for at in (0..kept.memory.len()).step_by(size) {
-            let end = (at + size).min(kept.memory.len());
-            let piece = kept.memory[at..end].to_vec();
-            if piece.iter().all(|byte| *byte == 0) {
-                continue;
-            }
-            kept.memory[at..end].fill(0);
-            if !differs(&kept) {
-                kept.memory[at..end].copy_from_slice(&piece);
-            }
-        }
-    }
-    kept
-}
-
-/// Writes memory's length, its words that are not zero unless they are many, and the calls.
-fn list(text: &mut String, setting: &Setting, calls: &[Numbers]) -> fmt::Result {
-    let (length, store) = (setting.memory.len(), setting.store.len());
-    writeln!(text, "memory of {length:X} bytes, store of {store:X}")?;
-    let words = setting.memory.chunks_exact(4).enumerate();
-    let words = words.map(|(i, word)| (4 * i, u32::from_le_bytes(word.try_into().unwrap())));
-    let words: Vec<_> = words.filter(|(_, word)| *word != 0).collect();
-    if words.len() <= 32 {
-        for (at, word) in words {
-            writeln!(text, "       word {word:X} at {at:X}")?;
-        }
-    } else {
-        writeln!(text, "       {:X} words that are not 0", words.len())?;
-    }
-    for (i, numbers) in calls.iter().enumerate() {
-        match Call::from_numbers(numbers) {
-            Some(call) => writeln!(text, "{i:>5X}  {call}   {numbers:X?}")?,
-            None => writeln!(text, "{i:>5X}  no call   {numbers:X?}")?,
-        }
-    }
-    Ok(())
 }

@@ -13,7 +13,7 @@ use sa110_model::Machine;
 
 /// A machine after a run's calls.
 fn after(run: Run) -> Machine {
-    let mut machine = Machine::start(run.memory, run.store).expect("a served start");
+    let mut machine = run.machine();
     for call in &run.calls {
         machine.step(call, &mut Unwatched);
     }

@@ -96,13 +96,14 @@ impl Texts {
     ) {
         let mut unbroken = setting.clone();
         let mut expected = vec![0; calls.len()];
-        let made = run(&mut unbroken, calls, &mut expected);
+        let made = unbroken.run(calls.as_flattened(), &mut expected);
         assert_eq!(made, calls.len(), "{}", name());
         let mut broken = setting.clone();
         let mut answers = vec![0; calls.len()];
         let mut from = 0;
         for stop in stops.iter().chain([&calls.len()]) {
-            run(&mut broken, &calls[from..*stop], &mut answers[from..*stop]);
+            let part = calls[from..*stop].as_flattened();
+            broken.run(part, &mut answers[from..*stop]);
             from = *stop;
             let said = || format!("stopped before call {stop}; {}", name());
             let text = self.store(&broken.packed, &broken.memory, text::TEXT_MAX, &said);
@@ -158,16 +159,6 @@ impl fmt::Display for Texts {
 fn note(counts: &mut [u64], answers: &[u32], answer: u32) {
     let at = answers.iter().position(|number| *number == answer);
     counts[at.unwrap_or_else(|| panic!("answer {answer}"))] += 1;
-}
-
-/// A run of the library.
-fn run(setting: &mut Setting, calls: &[Numbers], answers: &mut [u64]) -> usize {
-    let Setting {
-        packed,
-        memory,
-        store,
-    } = setting;
-    packed.run(memory, store, calls.as_flattened(), answers)
 }
 
 /// A state and record of any numbers.

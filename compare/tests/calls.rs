@@ -2,13 +2,15 @@
 
 use sa110_compare::damage::{flip_bit, replace_word};
 use sa110_compare::full::{full, Tags, TAGS};
+use sa110_compare::lists::{misfit, piece, varied_numbers, world_around};
 use sa110_compare::packed::{OfModel, Packed};
-use sa110_compare::side_by_side::{Numbers, Setting, Sides, Tally};
+use sa110_compare::side_by_side::{Setting, Sides, Tally};
 use sa110_compare::NO_CALL;
-use sa110_model::cache::address_of;
+use sa110_model::bus::no_bad_words;
 use sa110_model::coverage::Unwatched;
 use sa110_model::random::damage::DAMAGES;
 use sa110_model::random::guided::{free, guided};
+use sa110_model::random::maps::Map;
 use sa110_model::random::proposals::Proposer;
 use sa110_model::random::rng::{from_environment, Rng};
 use sa110_model::random::states;
@@ -19,54 +21,6 @@ use sa110_model::{Call, Machine};
 use std::panic::resume_unwind;
 
 const MEGABYTE: usize = 1 << 20;
-
-/// The calls as numbers. Numbers that a call has no use for are any; in some lists a few calls become
-/// five odd numbers, which may be no call.
-fn numbers(rng: &mut Rng, calls: &[Call]) -> Vec<Numbers> {
-    let odd = rng.pick(&[0, 0, 0, 2, 20]);
-    let mut list: Vec<_> = calls.iter().map(Call::to_numbers).collect();
-    for numbers in &mut list {
-        if rng.percent(50) {
-            fill_unused(rng, numbers);
-        }
-        if rng.percent(odd) {
-            *numbers = odd_numbers(rng, numbers);
-        }
-    }
-    list
-}
-
-fn fill_unused(rng: &mut Rng, numbers: &mut Numbers) {
-    let [kind, _, register, a, v] = numbers;
-    if *kind == 3 || *kind == 4 && *register != 7 && *register != 8 {
-        *a = rng.word();
-    }
-    if *kind == 0 || *kind == 1 || *kind == 3 {
-        *v = rng.word();
-    }
-}
-
-/// Five numbers, most of them small or those of a call.
-fn odd_numbers(rng: &mut Rng, call: &Numbers) -> Numbers {
-    let mut numbers = *call;
-    for (number, small) in numbers.iter_mut().zip([7, 4, 10, 0x100, 0x100]) {
-        match rng.below(10) {
-            0..=5 => {}
-            6..=8 => *number = rng.below(small),
-            _ => *number = rng.word(),
-        }
-    }
-    numbers
-}
-
-/// How many calls the shorter runs of a list make.
-fn piece(rng: &mut Rng, calls: usize) -> usize {
-    match rng.below(4) {
-        0 => 1 + rng.below(3) as usize,
-        1 => 1 + rng.below(40) as usize,
-        _ => 1 + rng.below(calls as u32) as usize,
-    }
-}
 
 /// The comparison of random lists: what was compared, and by whose seed.
 struct Comparison {
@@ -93,7 +47,7 @@ impl Comparison {
 
     /// Compares a list of calls from a setting; gives the machine at the end.
     fn list(&mut self, rng: &mut Rng, setting: &Setting, calls: &[Call], name: &str) -> Machine {
-        let list = numbers(rng, calls);
+        let list = varied_numbers(rng, calls);
         let piece = piece(rng, list.len());
         let seed = self.seed;
         self.tally
@@ -106,12 +60,12 @@ impl Comparison {
         let rng = &mut rng;
         let length = 50 + rng.below(400) as usize;
         let run = free(rng, length);
-        let setting = Setting::start(run.memory, run.store);
+        let setting = Setting::of_run(&run);
         let machine = self.list(rng, &setting, &run.calls, &format!("free run {n}"));
         let world = world_around(&machine);
         self.damaged(rng, &machine, &world, &format!("end of free run {n}"));
         let run = guided(rng, length, Rules::ALL).run;
-        let setting = Setting::start(run.memory, run.store);
+        let setting = Setting::of_run(&run);
         self.list(rng, &setting, &run.calls, &format!("guided run {n}"));
         let sound = states::sound(rng);
         let name = format!("sound state {n}");
@@ -122,8 +76,10 @@ impl Comparison {
         }
     }
 
+    /// Full caches, and a map that may make words of lines held bad.
     fn full(&mut self, rng: &mut Rng, tags: Tags, name: &str) {
-        let machine = full(rng, tags);
+        let mut machine = full(rng, tags);
+        machine.bad = Map::random(rng).make(rng, machine.memory.len(), &[]);
         let world = world_around(&machine);
         self.on_machine(rng, &machine, &world, name);
     }
@@ -136,8 +92,8 @@ impl Comparison {
         self.damaged(rng, machine, world, name);
     }
 
-    /// Calls on states that are damaged, on changed ones that may still be sound, and with bytes lent that
-    /// do not fit.
+    /// Calls on states that are damaged, on changed ones that may still be sound, and with bytes or a map lent
+    /// that do not fit.
     fn damaged(&mut self, rng: &mut Rng, machine: &Machine, world: &World, name: &str) {
         for _ in 0..4 {
             let i = rng.below(DAMAGES.len() as u32) as usize;
@@ -174,74 +130,6 @@ impl Comparison {
             self.list(rng, &setting, &calls, &format!("{name}: {what}"));
         }
     }
-}
-
-/// The lines that a machine holds, and some descriptors, for calls that meet them.
-fn world_around(machine: &Machine) -> World {
-    let lines = machine.state.cache.lines.iter().enumerate();
-    let mut lines: Vec<_> = lines
-        .filter(|(_, line)| line.valid == 1)
-        .map(|(i, line)| address_of(i, line.tag))
-        .collect();
-    lines.extend((0..16).map(|i| 0x4000 + 0x220 * i));
-    let base = machine.registers.plain.table_base;
-    let words = machine.memory.len() as u32 / 4;
-    World {
-        memory: machine.memory.clone(),
-        store: Vec::new(),
-        bases: vec![base],
-        lines,
-        pages: (0..40).map(|i| i << 12).collect(),
-        descriptors: (0..words.min(8)).map(|i| 4 * i).collect(),
-        sections: vec![0],
-        tables: vec![0x400],
-        mixed: Vec::new(),
-    }
-}
-
-/// Lends bytes of other lengths, changes the length at the start, or counts calls up to the limit; one or
-/// several of them.
-fn misfit(rng: &mut Rng, setting: &mut Setting) -> String {
-    let mut done = Vec::new();
-    while done.is_empty() {
-        let n = setting.memory.len();
-        if rng.percent(35) {
-            let any = rng.below(n as u32 + 100) as usize;
-            let shorter = n.saturating_sub(32);
-            let one = n.saturating_sub(1);
-            let length = rng.pick(&[
-                any,
-                any / 32 * 32,
-                0,
-                31,
-                shorter,
-                one,
-                n + 1,
-                n + 16,
-                n + 32,
-            ]);
-            setting.memory.resize(length, 0);
-            done.push(format!("memory {length} bytes"));
-        }
-        if rng.percent(25) {
-            let any = rng.below(2 * STORE_BYTES as u32) as usize;
-            let length = rng.pick(&[any, 0, STORE_BYTES - 1, STORE_BYTES + 1]);
-            setting.store.resize(length, 0);
-            done.push(format!("store {length} bytes"));
-        }
-        if rng.percent(25) {
-            let any = rng.draw() as usize >> rng.below(64);
-            let size = rng.pick(&[any, 0, n + 32, n ^ 1, n + (1 << 32)]);
-            setting.packed.state.size = size;
-            done.push(format!("length at the start {size}"));
-        }
-        if rng.percent(35) {
-            let calls = u32::MAX - rng.below(5);
-            setting.packed.state.counts.calls = calls;
-            done.push(format!("{calls} calls"));
-        }
-    }
-    done.join("; ")
 }
 
 #[test]
@@ -308,7 +196,8 @@ fn memories() {
             let mut proposer = Proposer::new(&mut rng, &world);
             proposer.opening(&mut rng);
             let calls: Vec<_> = (0..2_000).map(|_| proposer.next(&mut rng)).collect();
-            let setting = Setting::start(world.memory.clone(), world.store.clone());
+            let (memory, bad) = (world.memory.clone(), world.bad.clone());
+            let setting = Setting::start(memory, bad, world.store.clone());
             let name = format!("list {n} in {length} bytes");
             comparison.list(&mut rng, &setting, &calls, &name);
         }
@@ -327,7 +216,8 @@ fn memories() {
         most + 32,
         2 * most,
     ] {
-        let setting = Setting::start(vec![7; length], vec![0; STORE_BYTES]);
+        let bad = no_bad_words(length);
+        let setting = Setting::start(vec![7; length], bad, vec![0; STORE_BYTES]);
         let calls = states::calls(&mut rng, &world, 20);
         comparison.list(&mut rng, &setting, &calls, &format!("{length} bytes"));
     }
@@ -340,7 +230,8 @@ fn memories() {
         2 * STORE_BYTES,
     ] {
         for memory in [0x4000, 33] {
-            let setting = Setting::start(vec![7; memory], vec![7; length]);
+            let bad = no_bad_words(memory);
+            let setting = Setting::start(vec![7; memory], bad, vec![7; length]);
             let calls = states::calls(&mut rng, &world, 20);
             let name = format!("{memory} bytes, store {length} bytes");
             comparison.list(&mut rng, &setting, &calls, &name);
@@ -361,7 +252,7 @@ fn lists_of_other_lengths() {
         let mut rng = Rng::of_run(seed, n);
         let sound = states::sound(&mut rng);
         let calls = states::calls(&mut rng, &sound.world, 20);
-        let list = numbers(&mut rng, &calls);
+        let list = varied_numbers(&mut rng, &calls);
         let list = &list.as_flattened()[..rng.below(101) as usize];
         let length = rng.pick(&[0, 1, 19, 20, 25]);
         let mut answers = vec![9; length];
@@ -382,10 +273,11 @@ fn lists_of_other_lengths() {
 fn numbers_that_are_no_call() {
     let mut rng = Rng::new(1);
     let machine = full(&mut rng, Tags::Random);
-    let mut settings = vec![Setting::of(&machine); 4];
+    let mut settings = vec![Setting::of(&machine); 5];
     settings[1].packed.cp15.pointer = 32;
     settings[2].memory.push(0);
     settings[3].store.clear();
+    settings[4].bad[9] = 2;
     for setting in &settings {
         for kind in [0, 1, 2, 3, 4, 5, 6, 255, 256, 1 << 31, u32::MAX] {
             for privileged in [0, 1, 2, 3, 256, u32::MAX] {

@@ -1,5 +1,6 @@
 //! The second model makes the calls and looks of crates/first_run, and gives the text that the program prints.
 
+use sa110_model::bus::no_bad_words;
 use sa110_model::plain::Plain;
 use sa110_model::{words, Answer, Call, Machine};
 
@@ -63,6 +64,11 @@ fn single() -> [Call; 4] {
 
 const LOOKS: [u32; 3] = [0x100010, 0x104004, 0x300000];
 
+/// The loads that it makes last, when the word at 4008 is bad: of the word before it, and of it.
+fn last() -> [Call; 2] {
+    [Call::load(4, 0x104004), Call::load(4, 0x104008)]
+}
+
 /// A call in words.
 fn call_text(call: &Call) -> String {
     let [kind, privileged, n, a, v] = call.to_numbers();
@@ -115,7 +121,7 @@ fn part_text(part: &[u8]) -> String {
 /// The list on both machines, and what they count.
 fn listed_text(machine: &mut Machine) -> String {
     let mut out = String::new();
-    let mut plain = Plain::start(memory());
+    let mut plain = Plain::start(memory(), no_bad_words(memory().len()));
     for call in listed() {
         let (answer, other) = (machine.call(&call), plain.call(&call));
         out += &format!("{}  {}\n", call_text(&call), number_text(&answer));
@@ -132,13 +138,13 @@ fn listed_text(machine: &mut Machine) -> String {
     out + &format!("plain machine: calls counted {:02}\n", plain.calls)
 }
 
-/// The calls one by one, on what the list left.
-fn single_text(machine: &mut Machine) -> String {
-    let line = |call: Call| {
-        let answer = machine.call(&call);
-        format!("{}  {}\n", call_text(&call), answer_text(&answer))
+/// Calls one by one, on what those before them left.
+fn single_text(machine: &mut Machine, calls: &[Call]) -> String {
+    let line = |call: &Call| {
+        let answer = machine.call(call);
+        format!("{}  {}\n", call_text(call), answer_text(&answer))
     };
-    single().into_iter().map(line).collect()
+    calls.iter().map(line).collect()
 }
 
 /// The looks, behind them.
@@ -150,6 +156,10 @@ fn looks_text(machine: &Machine) -> String {
 #[test]
 fn program_prints_what_the_model_says() {
     let mut machine = Machine::fresh(memory());
-    let expected = listed_text(&mut machine) + &single_text(&mut machine) + &looks_text(&machine);
+    let mut expected = listed_text(&mut machine);
+    expected += &single_text(&mut machine, &single());
+    expected += &looks_text(&machine);
+    machine.bad[0x4008 / 4] = 1;
+    expected += &single_text(&mut machine, &last());
     assert_eq!(include_str!("../../crates/first_run/stdout"), expected);
 }

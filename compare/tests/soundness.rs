@@ -135,8 +135,7 @@ fn compare_damaged(tally: &mut Tally, sound: &Machine, rng: &mut Rng, name: &str
 
 /// Makes a run's calls, and compares the state after each fourth; answers the machine at the end.
 fn compare_run(tally: &mut Tally, run: &Run, name: &str) -> Machine {
-    let mut machine =
-        Machine::start(run.memory.clone(), run.store.clone()).expect("a served start");
+    let mut machine = run.machine();
     for (i, call) in run.calls.iter().enumerate() {
         machine.step(call, &mut Unwatched);
         if i % 4 == 0 {

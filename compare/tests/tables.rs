@@ -1,9 +1,10 @@
-//! The rights table, and walks over random tables.
+//! The rights table, and walks over random tables with maps of bad words.
 
 use sa110_compare::packed::entry_word;
 use sa110_compare::{right, walk};
+use sa110_model::bus::{Bus, Word};
 use sa110_model::random::rng::{from_environment, Rng};
-use sa110_model::random::world::world;
+use sa110_model::random::world::{world, World};
 use sa110_model::rights::TABLE;
 
 #[test]
@@ -15,21 +16,47 @@ fn rights_entries() {
     assert_eq!(right(u32::MAX), 255);
 }
 
-fn expected(memory: &[u8], base: u32, va: u32) -> u64 {
-    match sa110_model::walk::walk(memory, base, va).found {
-        Ok(entry) => entry_word(&entry),
+/// What a walk answers by the second model, and what it comes to: a mapping, a fault, one by a bad word.
+fn expected(bus: Bus, base: u32, va: u32) -> (u64, usize) {
+    let walk = sa110_model::walk::walk(bus, base, va);
+    let answer = match walk.found {
+        Ok(entry) => return (entry_word(&entry), 0),
         Err(abort) => 2 * (abort.domain * 16 + abort.status as u32) as u64,
+    };
+    let bad = walk.aborted.is_some_and(|at| bus.word(at) == Word::Bad);
+    (answer, 1 + usize::from(bad))
+}
+
+/// The world's map; or one that a walk takes too: cut, longer than memory's, or with bytes above 1, which are
+/// no bad words.
+fn map(rng: &mut Rng, world: &World) -> Vec<u8> {
+    let mut bad = world.bad.clone();
+    if rng.percent(30) {
+        let length = rng.below(2 * bad.len() as u32 + 2) as usize;
+        bad.resize(length, rng.below(2) as u8);
     }
+    if rng.percent(20) {
+        let byte = rng.pick(&[2, 3, 0x81, 0xFF]);
+        for bad in bad.iter_mut().filter(|_| rng.percent(30)) {
+            *bad = byte;
+        }
+    }
+    bad
 }
 
 #[test]
 fn walks() {
     let seed = from_environment("SEED", 1);
     println!("seed {seed}");
-    let (mut found, mut failed) = (0, 0);
+    let mut counts = [0; 3];
     for n in 0..400 {
         let mut rng = Rng::of_run(seed, n);
         let world = world(&mut rng);
+        let bad = map(&mut rng, &world);
+        let bus = Bus {
+            memory: &world.memory,
+            bad: &bad,
+        };
         for _ in 0..2_000 {
             let base = if rng.percent(80) && !world.bases.is_empty() {
                 rng.pick(&world.bases) & !0x3FFF
@@ -41,19 +68,16 @@ fn walks() {
             } else {
                 rng.word()
             };
-            let answer = walk(&world.memory, base, va);
+            let (answer, kind) = expected(bus, base, va);
             assert_eq!(
+                walk(&world.memory, &bad, base, va),
                 answer,
-                expected(&world.memory, base, va),
                 "seed {seed} world {n} base {base:x} va {va:x}"
             );
-            if answer % 2 == 1 {
-                found += 1
-            } else {
-                failed += 1
-            }
+            counts[kind] += 1;
         }
     }
-    println!("walks that found a mapping {found}, that failed {failed}");
-    assert!(found > 1_000 && failed > 1_000);
+    let [found, failed, bad] = counts;
+    println!("walks that found a mapping {found}, that failed {failed}, that met a bad word {bad}");
+    assert!(counts.iter().all(|count| *count > 1_000));
 }

@@ -185,7 +185,7 @@ fn runs_stopped_and_carried_on() {
             states::calls(rng, &sound.world, length),
         )];
         for run in [free(rng, length), guided(rng, length, Rules::ALL).run] {
-            lists.push((Setting::start(run.memory, run.store), run.calls));
+            lists.push((Setting::of_run(&run), run.calls));
         }
         for (i, (setting, calls)) in lists.iter().enumerate() {
             let calls: Vec<Numbers> = calls.iter().map(Call::to_numbers).collect();

@@ -1,9 +1,9 @@
 //! Makes a list of calls on the proved library, on the second model and on the plain machine, and prints
 //! their counts side by side.
 
-use sa110::{plain_run, Machine as Library, FIELDS, MEMORY_MAX, STORE_BYTES};
+use sa110::{no_bad_words, plain_run, Machine as Library, FIELDS, MEMORY_MAX, STORE_BYTES};
 use sa110_model::calls::Call;
-use sa110_model::library;
+use sa110_model::machine::Machine;
 use sa110_model::rules::{Monitor, Part, Rules};
 use std::process::ExitCode;
 
@@ -12,7 +12,7 @@ Makes a list of calls on the proved library, on the second model and on the plai
 their counts side by side.
 CALLS is a file of calls, five numbers each (kind, privileged, n, a, v), 32 bits, little-endian;
 tools/lackey-calls writes one. BYTES is memory's length, 16777216 if absent; memory and cache store are
-zero at the start.";
+zero at the start, and no word is bad.";
 
 /// What one side answers and leaves.
 struct Side {
@@ -37,7 +37,8 @@ fn of_library(calls: &[u32], bytes: usize) -> Side {
     let (mut memory, mut store) = (vec![0; bytes], vec![0; STORE_BYTES]);
     let mut answers = vec![0; calls.len() / FIELDS];
     let (mut machine, _) = Library::start(&memory, &store);
-    let made = machine.run(&mut memory, &mut store, calls, &mut answers);
+    let bad = no_bad_words(bytes);
+    let made = machine.run(&mut memory, &bad, &mut store, calls, &mut answers);
     let c = machine.state.counts;
     Side {
         name: "library",
@@ -50,21 +51,12 @@ fn of_library(calls: &[u32], bytes: usize) -> Side {
 }
 
 fn of_model(calls: &[u32], bytes: usize) -> Side {
-    let (mut memory, mut store) = (vec![0; bytes], vec![0; STORE_BYTES]);
     let mut answers = vec![0; calls.len() / FIELDS];
     let made = listed(calls).len();
-    let started = library::start(&memory, &store);
-    let (mut state, mut registers) = (Box::new(started.state), started.registers);
-    library::run(
-        &mut state,
-        &mut registers,
-        &mut memory,
-        &mut store,
-        &calls[..made * FIELDS],
-        &mut answers[..made],
-    )
-    .expect("calls alone");
-    let c = state.counts;
+    let mut machine = Machine::fresh(vec![0; bytes]);
+    let ran = machine.run(&calls[..made * FIELDS], &mut answers[..made]);
+    ran.expect("calls alone");
+    let (c, memory) = (machine.state.counts, machine.memory);
     Side {
         name: "second model",
         made,
@@ -78,7 +70,7 @@ fn of_model(calls: &[u32], bytes: usize) -> Side {
 fn of_plain(calls: &[u32], bytes: usize) -> Side {
     let mut memory = vec![0; bytes];
     let mut answers = vec![0; calls.len() / FIELDS];
-    let ran = plain_run(&mut memory, calls, &mut answers);
+    let ran = plain_run(&mut memory, &no_bad_words(bytes), calls, &mut answers);
     Side {
         name: "plain machine",
         made: ran.made,
@@ -92,7 +84,7 @@ fn of_plain(calls: &[u32], bytes: usize) -> Side {
 /// Whether the list keeps the rules, and if so whether all lines stored to are cleaned and drained at its
 /// end; or the number of the first call that breaks one, and which.
 fn rules(calls: &[u32], bytes: usize) -> Result<bool, (usize, Part)> {
-    let mut monitor = Monitor::start(vec![0; bytes], Rules::ALL);
+    let mut monitor = Monitor::start(vec![0; bytes], no_bad_words(bytes), Rules::ALL);
     for (i, call) in listed(calls).iter().enumerate() {
         let deed = monitor.propose(call).map_err(|part| (i, part))?;
         monitor.accept(&deed);

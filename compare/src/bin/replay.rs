@@ -1,6 +1,7 @@
 //! Replays a trace kept as text by the proved library, and compares with the second model.
 
-use sa110_compare::replays::{Begin, Cuts, Replays};
+use sa110_compare::cuts::Cuts;
+use sa110_compare::replays::{Begin, Replays};
 use sa110_model::random::Rng;
 use std::io::Write;
 use std::process::ExitCode;
@@ -8,7 +9,7 @@ use std::process::ExitCode;
 const USAGE: &str = "usage: replay TEXT
 Replays a trace by the proved library, prints what it prints, and compares with the second model; then
 replays it cut in some random ways. TEXT is a file with one call a line: call, privileged, width or register
-number, address or opcode 2 * 16 + CRm, value. Memory is 65536 zero bytes.";
+number, address or opcode 2 * 16 + CRm, value. Memory is 65536 zero bytes without bad words.";
 
 fn main() -> ExitCode {
     let given: Vec<String> = std::env::args().skip(1).collect();
