@@ -1,8 +1,10 @@
-/* Damaged input from C: random and damaged states and replays, wrong lengths, numbers that are no call, malformed traces, damaged texts of states.
- * Each lent thing lies against a page that cannot be read or written, or in a block of its own from malloc for valgrind to watch, so that an
- * access outside ends the program. Checked are: a start writes the whole state and record; the answer is one of document 01's; a refused call, a
- * look and a soundness test change nothing; a state that was sound stays so; a run of the list answers and leaves the same. A swap answers what a load
- * answers before it, and a load after it answers the value swapped in. A replay that is refused changes nothing but its last two fields; any other prints
+/* Damaged input from C: random and damaged states and replays, wrong lengths, maps of bad words that do not fit, numbers that are no call, malformed traces,
+ * damaged texts of states. Each lent thing lies against a page that cannot be read or written, or in a block of its own from malloc for valgrind to watch,
+ * so that an access outside ends the program; so does a write to the map. Checked are: a start writes the whole state and record; the answer is one of
+ * documents 01 and 02, and refusals 1 to 4, 16 and 5 are met in this order; a refused call, a look and a soundness test change nothing; a state that was
+ * sound stays so; a run of the list answers and leaves the same. No call changes a bad word. A fill that is aborted leaves its place empty and the cache
+ * store as it was, and is not counted. A swap answers what a load answers before it, and a load after it answers the value swapped in. The plain machine
+ * refuses all of a list by 16, or nothing of it. A walk takes any map. A replay that is refused changes nothing but its last two fields; any other prints
  * and leaves what a call for each line gives, in parts and slices of any length. A state is stored as the text that is laid and read here, and read back
  * from it, with a memory that cannot be touched; a storing that is refused changes no byte of its slice, and others none behind the text; a reading that is
  * refused leaves zeros; a run that is stopped, stored and read back ends as the unbroken run. */
@@ -66,6 +68,15 @@ static struct block copy_of(const struct block *b) {
     return c;
 }
 
+/* The block, from which can then only be read where it has pages of its own. */
+static struct block sealed(struct block b) {
+    size_t page = (size_t)sysconf(_SC_PAGESIZE);
+    if (b.pages != NULL && b.length > 0 && mprotect(b.pages + page, b.pages_length - 2 * page, PROT_READ) != 0) {
+        fail("no memory left");
+    }
+    return b;
+}
+
 static void give_back(struct block *b) {
     if (b->pages != NULL) {
         munmap(b->pages, b->pages_length);
@@ -76,14 +87,14 @@ static void give_back(struct block *b) {
 
 /* A machine with what is lent to it, each in a block. */
 struct machine {
-    struct block state, cp15, memory, store;
+    struct block state, cp15, memory, bad, store;
 };
 
 static struct sa110_state *state(struct machine *m) { return (struct sa110_state *)m->state.at; }
 static struct sa110_cp15 *cp15(struct machine *m) { return (struct sa110_cp15 *)m->cp15.at; }
 
 static struct machine machine_of(const struct machine *m) {
-    struct machine c = {copy_of(&m->state), copy_of(&m->cp15), copy_of(&m->memory), copy_of(&m->store)};
+    struct machine c = {copy_of(&m->state), copy_of(&m->cp15), copy_of(&m->memory), sealed(copy_of(&m->bad)), copy_of(&m->store)};
     return c;
 }
 
@@ -91,6 +102,7 @@ static void drop(struct machine *m) {
     give_back(&m->state);
     give_back(&m->cp15);
     give_back(&m->memory);
+    give_back(&m->bad);
     give_back(&m->store);
 }
 
@@ -98,7 +110,7 @@ static int same_bytes(const struct block *a, const struct block *b) { return a->
 
 static int same(struct machine *a, struct machine *b) {
     return sa110_same_state(state(a), state(b)) && same_bytes(&a->cp15, &b->cp15) && same_bytes(&a->memory, &b->memory) &&
-           same_bytes(&a->store, &b->store);
+           same_bytes(&a->bad, &b->bad) && same_bytes(&a->store, &b->store);
 }
 
 static int sound(struct machine *m) {
@@ -114,12 +126,34 @@ static int sound(struct machine *m) {
     return answer == 1;
 }
 
+static int fits(size_t memory_length) { return memory_length % 32 == 0 && memory_length <= SA110_MEMORY_MAX; }
+
+/* Whether a map is not refused by 16. */
+static int map_fits(const struct block *bad, size_t memory_length) {
+    size_t i;
+    for (i = 0; i < bad->length && bad->at[i] <= 1; i++) {
+    }
+    return i == bad->length && bad->length * SA110_WORD_BYTES == memory_length;
+}
+
+/* The first of the refusals 1 to 4, 16 and 5 that a call meets, or 0. */
+static uint32_t first_refusal(struct machine *m) {
+    size_t n = m->memory.length;
+    return !fits(n)                                        ? SA110_REFUSED_MEMORY
+           : m->store.length != SA110_STORE_BYTES          ? SA110_REFUSED_STORE
+           : sa110_sound(state(m), cp15(m), n) == 0        ? SA110_REFUSED_STATE
+           : state(m)->size != n                           ? SA110_REFUSED_LENGTH
+           : !map_fits(&m->bad, n)                         ? SA110_REFUSED_MAP
+           : state(m)->counts.calls == UINT32_MAX          ? SA110_REFUSED_COUNT
+                                                           : 0;
+}
+
 /* Starts, and checks the answer, the state and the record that it writes. */
 static void start(struct machine *m) {
     static const struct sa110_cp15 zeros;
     static struct sa110_state fresh;
     size_t n = m->memory.length;
-    uint32_t expected = n % 32 != 0 || n > SA110_MEMORY_MAX ? 1 : m->store.length != SA110_STORE_BYTES ? 2 : 0;
+    uint32_t expected = !fits(n) ? 1 : m->store.length != SA110_STORE_BYTES ? 2 : 0;
     uint32_t refusal = sa110_start(state(m), cp15(m), m->memory.at, n, m->store.at, m->store.length);
     fresh.size = refusal ? 0 : n;
     if (refusal != expected || !sa110_same_state(state(m), &fresh) || memcmp(cp15(m), &zeros, sizeof zeros) != 0) {
@@ -147,6 +181,36 @@ static size_t memory_length(void) {
     default:
         return 32u * below(2049);
     }
+}
+
+/* A map for a memory of some length: no bad words, or some, up to an eighth of all. */
+static struct block some_map(size_t memory_length) {
+    struct block b = lend(memory_length / SA110_WORD_BYTES);
+    size_t i, times = chance(3) || b.length > 65536 ? 0 : b.length >> (3 + below(8));
+    memset(b.at, 0, b.length);
+    for (i = 0; i < times; i++) {
+        b.at[below((uint32_t)b.length)] = 1;
+    }
+    return sealed(b);
+}
+
+/* Gives a machine another map, mostly one that does not fit. */
+static void damage_map(struct machine *m) {
+    size_t n = m->bad.length;
+    const size_t lengths[] = {0, n - (n > 0), n + 1, m->memory.length, n / 2, below(64)};
+    uint32_t way = below(9);
+    struct block b = lend(way < 6 ? lengths[way] : n);
+    memset(b.at, 0, b.length);
+    memcpy(b.at, m->bad.at, b.length < n ? b.length : n);
+    if (way == 6 && n > 0) {
+        b.at[chance(4) ? 0 : chance(3) ? n - 1 : below((uint32_t)n)] = chance(2) ? 2 : (uint8_t)(2 + below(254));
+    } else if (way == 7) {
+        memset(b.at, (int)word(), n);
+    } else if (way == 8 && n > 0) { /* a word that was good is bad */
+        b.at[below((uint32_t)n)] = 1;
+    }
+    give_back(&m->bad);
+    m->bad = sealed(b);
 }
 
 /* An address, often the last one again, so that lines are hit. */
@@ -178,22 +242,23 @@ static void numbers(uint32_t *c) {
     }
 }
 
-/* A machine after a start and a list of calls, or refused. */
+/* A machine after a start and a list of calls, or refused. In one of three the first five megabytes are cacheable sections at 0. */
 static struct machine some_machine(void) {
     struct machine m;
     uint32_t calls[64 * SA110_FIELDS];
     uint64_t answers[64];
-    size_t i, n = memory_length();
+    size_t i, n = memory_length(), sections = chance(3) ? 5 * SA110_WORD_BYTES : 0;
     m.state = lend(sizeof(struct sa110_state));
     m.cp15 = lend(sizeof(struct sa110_cp15));
     m.memory = lend(n);
+    m.bad = some_map(n);
     m.store = lend(chance(20) ? below(2) * 16383 + 2 * below(2) : SA110_STORE_BYTES);
     memset(m.state.at, 0xAA, m.state.length);
     memset(m.cp15.at, 0xAA, m.cp15.length);
     memset(m.memory.at, chance(2) ? 0 : 0x5A, n);
     memset(m.store.at, 0x33, m.store.length);
     for (i = 0; i + 4 <= n && n <= 65536; i += 4) {
-        uint32_t w = descriptor(n);
+        uint32_t w = i % 0x4000 < sections ? 0x00000C0E : descriptor(n);
         memcpy(m.memory.at + i, &w, 4);
     }
     start(&m);
@@ -202,13 +267,17 @@ static struct machine some_machine(void) {
     }
     const uint32_t first[] = {4, 1, 2, 0, 0x4000 * below(2), 4, 1, 3, 0, 0x55555555, 4, 1, 1, 0, 13 + 2 * below(2)};
     memcpy(calls, first, sizeof first);
-    sa110_run(state(&m), cp15(&m), m.memory.at, n, m.store.at, m.store.length, calls, sizeof calls / sizeof *calls, answers, 3 + below(62));
+    sa110_run(state(&m), cp15(&m), m.memory.at, n, m.bad.at, m.bad.length, m.store.at, m.store.length, calls, sizeof calls / sizeof *calls, answers,
+              3 + below(62));
     return m;
 }
 
 static void damage(struct machine *m) {
     struct sa110_state *s = state(m);
     uint32_t i, times = 1 + below(4);
+    if (chance(5)) {
+        damage_map(m);
+    }
     switch (below(14)) {
     case 0: /* bits of the state */
         for (i = 0; i < times; i++) {
@@ -248,7 +317,7 @@ static void damage(struct machine *m) {
     }
 }
 
-static uint64_t served, faults[16], refused[13], none, swaps, swap_hits, swap_faults[16], swaps_refused;
+static uint64_t served, faults[16], refused[17], none, swaps, swap_hits, swap_faults[16], swaps_refused;
 
 /* Notes a swap's answer. */
 static void note_swap(uint64_t answer, uint32_t width) {
@@ -281,7 +350,7 @@ static int note(uint64_t answer, const uint32_t *c) {
         faults[sa110_status(answer)]++;
         return 0;
     case SA110_REFUSED:
-        if (value < 1 || value > 12) {
+        if (value < 1 || (value > 12 && value != SA110_REFUSED_MAP)) {
             fail("a refusal of no known number");
         }
         refused[value]++;
@@ -301,14 +370,14 @@ static uint64_t looks[3];
 static void look(struct machine *m) {
     struct machine before = machine_of(m);
     uint32_t va = address();
-    uint64_t found = sa110_look(state(m), cp15(m), m->memory.at, m->memory.length, m->store.at, m->store.length, va);
-    uint32_t which = sa110_which(found), offset = sa110_value(found);
+    uint64_t found = sa110_look(state(m), cp15(m), m->memory.at, m->memory.length, m->bad.at, m->bad.length, m->store.at, m->store.length, va);
+    uint32_t which = sa110_which(found), offset = sa110_value(found), refusal = first_refusal(m);
     if (which > SA110_OF_MEMORY || offset % SA110_LINE_BYTES != 0 || (which == SA110_NOWHERE && found != 0) ||
         (which == SA110_OF_STORE && offset >= m->store.length) || (which == SA110_OF_MEMORY && offset >= m->memory.length)) {
         fail("a look finds what is not there");
     }
-    if (which != SA110_NOWHERE && !sound(m)) {
-        fail("a look into an unsound state finds something");
+    if (which != SA110_NOWHERE && refusal != 0 && refusal != SA110_REFUSED_COUNT) {
+        fail("a look under a refusal 1 to 4 or 16 finds something");
     }
     looks[which]++;
     if (!same(m, &before)) {
@@ -318,30 +387,100 @@ static void look(struct machine *m) {
 }
 
 static uint64_t call(struct machine *m, const uint32_t *c) {
-    return sa110_call(state(m), cp15(m), m->memory.at, m->memory.length, m->store.at, m->store.length, c[0], c[1], c[2], c[3], c[4]);
+    return sa110_call(state(m), cp15(m), m->memory.at, m->memory.length, m->bad.at, m->bad.length, m->store.at, m->store.length, c[0], c[1], c[2], c[3],
+                      c[4]);
 }
 
-/* Loads what a swap names, and checks the value; but not where the load's line fill sends out halves, which may be of the same physical line. */
+static int is_fill_fault(uint64_t answer) {
+    return sa110_kind(answer) == SA110_FAULT && (sa110_status(answer) == SA110_FILL_SECTION || sa110_status(answer) == SA110_FILL_PAGE);
+}
+
+/* Loads what a swap names, and checks the value; but not where the load's line fill sends out halves, which may be of the same physical line, or where it
+ * faults, as a bad word may lie before the one that the swap reached. */
 static void load_of(struct machine *m, const uint32_t *swap, uint64_t value) {
     const uint32_t load[SA110_FIELDS] = {SA110_LOAD, swap[1], swap[2], swap[3], 0};
     uint32_t halves = state(m)->counts.halves;
     uint64_t answer = call(m, load);
-    if (answer != value && state(m)->counts.halves == halves && answer != ((uint64_t)SA110_REFUSED << 32 | SA110_REFUSED_COUNT)) {
+    if (answer != value && state(m)->counts.halves == halves && answer != ((uint64_t)SA110_REFUSED << 32 | SA110_REFUSED_COUNT) &&
+        (!is_fill_fault(answer) || memchr(m->bad.at, 1, m->bad.length) == NULL)) {
         fail("a load before or after a swap answers something else");
     }
+}
+
+static uint64_t aborted_served, aborted_faults;
+
+/* Checks the set pointers, and the line fill where one has stepped, of a call that was not refused. */
+static void check_fill(struct machine *m, struct machine *before, const uint32_t *c, uint64_t answer) {
+    const struct sa110_state *old = state(before), *new = state(m);
+    uint32_t i, set = c[3] / SA110_LINE_BYTES % SA110_SETS, way = set * SA110_WAYS + old->pointers[set];
+    int load = c[0] == SA110_LOAD || c[0] == SA110_SIGNED_LOAD, stepped = load && new->pointers[set] == (old->pointers[set] + 1) % SA110_WAYS;
+    for (i = 0; i < SA110_SETS; i++) {
+        if (new->pointers[i] != old->pointers[i] && !(stepped && i == set)) {
+            fail("a set pointer changes without a line fill");
+        }
+    }
+    if (!stepped) {
+        if (new->counts.fills != old->counts.fills || is_fill_fault(answer)) {
+            fail("a line fill without a step of the set's pointer");
+        }
+        return;
+    }
+    if (new->counts.halves - old->counts.halves != (old->lines[way] >> 1 & 1) + (old->lines[way] >> 2 & 1)) {
+        fail("a line that gives way sends out other halves");
+    }
+    if (new->counts.fills != old->counts.fills) {
+        if (new->lines[way] % 8 != 1 || new->lines[way] >> 32 != c[3] >> 9 || sa110_kind(answer) != SA110_SERVED) {
+            fail("a line fill leaves another line");
+        }
+        return;
+    }
+    if (new->lines[way] != 0 || !same_bytes(&m->store, &before->store) || (sa110_kind(answer) == SA110_FAULT && !is_fill_fault(answer))) {
+        fail("an aborted line fill leaves a line, changes the cache store or has another fault");
+    }
+    aborted_served += sa110_kind(answer) == SA110_SERVED;
+    aborted_faults += sa110_kind(answer) == SA110_FAULT;
+}
+
+/* Checks that the bad words of a memory are as they were. */
+static void check_bad_words(const struct block *memory, const struct block *before, const struct block *bad) {
+    size_t i;
+    for (i = 0; i < bad->length; i++) {
+        if (bad->at[i] == 1 && memcmp(memory->at + i * SA110_WORD_BYTES, before->at + i * SA110_WORD_BYTES, SA110_WORD_BYTES) != 0) {
+            fail("a bad word has changed");
+        }
+    }
+}
+
+static uint64_t length_before_map, map_before_count;
+
+/* Checks that an answer is the refusal that is met first. */
+static void check_refusal(struct machine *m, uint32_t expected, uint64_t answer) {
+    uint32_t value = sa110_kind(answer) == SA110_REFUSED ? sa110_value(answer) : 0;
+    if (expected != 0 ? value != expected : value >= 1 && (value <= 5 || value == SA110_REFUSED_MAP)) {
+        fail("a refusal is met out of its order");
+    }
+    length_before_map += expected == SA110_REFUSED_LENGTH && !map_fits(&m->bad, m->memory.length);
+    map_before_count += expected == SA110_REFUSED_MAP && state(m)->counts.calls == UINT32_MAX;
 }
 
 /* Makes a call and checks it; gives its answer. */
 static uint64_t one_call(struct machine *m, const uint32_t *c) {
     struct machine before = machine_of(m);
     int was_sound = sound(m);
+    uint32_t expected = first_refusal(m);
     uint64_t answer = call(m, c);
+    if (sa110_kind(answer) != SA110_NO_CALL) {
+        check_refusal(&before, expected, answer);
+    }
     if (note(answer, c)) {
         if (!same(m, &before)) {
             fail("a refused call changes something");
         }
     } else if (!was_sound || !sound(m)) {
         fail("a call that is not refused had or leaves an unsound state");
+    } else {
+        check_fill(m, &before, c, answer);
+        check_bad_words(&m->memory, &before.memory, &m->bad);
     }
     if (c[0] == SA110_SWAP && sa110_kind(answer) == SA110_SERVED) {
         struct machine after = machine_of(m);
@@ -375,8 +514,8 @@ static void one_case(void) {
     }
     answers = lend((stop + below(3)) * 8);
     memset(answers.at, 0x77, answers.length);
-    size_t made = sa110_run(state(&r), cp15(&r), r.memory.at, r.memory.length, r.store.at, r.store.length, (uint32_t *)calls.at, calls.length / 4,
-                            (uint64_t *)answers.at, answers.length / 8);
+    size_t made = sa110_run(state(&r), cp15(&r), r.memory.at, r.memory.length, r.bad.at, r.bad.length, r.store.at, r.store.length, (uint32_t *)calls.at,
+                            calls.length / 4, (uint64_t *)answers.at, answers.length / 8);
     if (made != stop || memcmp(answers.at, codes, stop * 8) != 0 || !same(&r, &m)) {
         fail("a run differs from its calls");
     }
@@ -389,6 +528,93 @@ static void one_case(void) {
     give_back(&answers);
     drop(&m);
     drop(&r);
+}
+
+static uint64_t plain_refused[17], plain_served;
+
+/* Five numbers for each place of a list; gives how many stand before the first that are no call. */
+static size_t some_list(uint32_t *calls) {
+    size_t i, stop = MOST;
+    for (i = 0; i < MOST; i++) {
+        uint32_t *c = calls + i * SA110_FIELDS;
+        numbers(c);
+        stop = i < stop && (c[0] > SA110_SWAP || c[1] > 1) ? i : stop;
+    }
+    return stop;
+}
+
+/* Checks the answers of the plain machine to the first `stop` calls, each of which is refused by `refusal` if that is not 0, and that no more are written;
+ * gives how many calls were not refused. */
+static size_t check_plain(const uint64_t *answers, size_t stop, uint32_t refusal) {
+    size_t i, counted = 0;
+    for (i = 0; i < MOST; i++) {
+        uint32_t value = sa110_kind(answers[i]) == SA110_REFUSED ? sa110_value(answers[i]) : 0;
+        int right = refusal != 0 ? value == refusal : value == 0 || (value >= SA110_REFUSED_WIDTH && value <= SA110_REFUSED_CONTROL);
+        if (i < stop ? !right : answers[i] != 0x7777777777777777u) {
+            fail("the plain machine answers something else");
+        }
+        counted += i < stop && value == 0;
+    }
+    return counted;
+}
+
+/* A list on the plain machine: it makes no call, refuses each by 16, or none by 16; and it changes no bad word. */
+static void one_plain(void) {
+    static const struct sa110_plain_ran zeros;
+    struct machine m = some_machine();
+    if (chance(2)) {
+        damage_map(&m);
+    }
+    struct machine before = machine_of(&m);
+    struct block calls = lend(MOST * SA110_FIELDS * 4), answers = lend(MOST * 8);
+    size_t n = m.memory.length, stop = some_list((uint32_t *)calls.at), made = fits(n) ? stop : 0;
+    uint32_t refusal = !fits(n) ? SA110_REFUSED_MEMORY : !map_fits(&m.bad, n) ? SA110_REFUSED_MAP : 0;
+    memset(answers.at, 0x77, answers.length);
+    struct sa110_plain_ran ran =
+        sa110_plain_run(m.memory.at, n, m.bad.at, m.bad.length, (uint32_t *)calls.at, calls.length / 4, (uint64_t *)answers.at, MOST);
+    size_t counted = check_plain((uint64_t *)answers.at, made, refusal);
+    if (ran.made != made || ran.calls != counted || ran.refusal != (refusal == SA110_REFUSED_MEMORY)) {
+        fail("the plain machine counts something else");
+    }
+    if (refusal != 0 && (!same(&m, &before) || memcmp(&ran, &zeros, offsetof(struct sa110_plain_ran, refusal)) != 0)) {
+        fail("the plain machine refuses and changes something");
+    }
+    check_bad_words(&m.memory, &before.memory, &m.bad);
+    plain_refused[refusal]++;
+    plain_served += counted;
+    give_back(&calls);
+    give_back(&answers);
+    drop(&before);
+    drop(&m);
+}
+
+static uint64_t walks[16];
+
+/* A walk over a memory and a map of any lengths and bytes: as with the map that says the same of the words in memory. */
+static void one_walk(void) {
+    size_t i, n = below(3) * 0x4000 + below(0x200), length = chance(3) ? n / 4 : below(2 * 0x4000);
+    struct block memory = lend(n), bad = lend(length), fit = lend(n / 4 + 1);
+    uint32_t base = below(3) * 0x4000, va = address(), first = base + (va >> 20) * 4;
+    for (i = 0; i + 4 <= n; i += 4) {
+        uint32_t w = descriptor(n);
+        memcpy(memory.at + i, &w, 4);
+    }
+    memset(fit.at, 0, fit.length);
+    for (i = 0; i < length; i++) {
+        bad.at[i] = chance(8) ? 1 : chance(8) ? (uint8_t)any() : 0;
+        fit.at[i < n / 4 ? i : n / 4] = bad.at[i] == 1;
+    }
+    bad = sealed(bad);
+    uint64_t found = sa110_walk(memory.at, n, bad.at, length, base, va), same = sa110_walk(memory.at, n, fit.at, n / 4, base, va);
+    uint32_t status = found % 2 == 1 ? 0 : sa110_status(found / 2);
+    int aborts = first + 4 > n || (first / 4 < length && bad.at[first / 4] == 1);
+    if (found != same || (status == SA110_WALK_FIRST) != aborts) {
+        fail("a walk heeds another map");
+    }
+    walks[status]++;
+    give_back(&memory);
+    give_back(&bad);
+    give_back(&fit);
 }
 
 #define LINES 12       /* of a text */
@@ -535,7 +761,8 @@ static size_t one_part(struct block *replay, struct machine *m, const uint8_t *t
     size_t i, written;
     memcpy(given.at, text, length);
     memset(out.at, 0x77, out.length);
-    uint32_t answer = sa110_replay(r, m->memory.at, m->memory.length, m->store.at, m->store.length, given.at, length, ends, out.at, out.length);
+    uint32_t answer = sa110_replay(r, m->memory.at, m->memory.length, m->bad.at, m->bad.length, m->store.at, m->store.length, given.at, length, ends, out.at,
+                                   out.length);
     written = r->written;
     if (answer != (in_range(replay_of(&before)) ? 0 : SA110_REFUSED_STATE) || r->taken > length || written > out.length) {
         fail("a replay answers, takes or writes something else");
@@ -726,8 +953,6 @@ static int pack_text(const uint64_t *numbers, struct sa110_state *s, struct sa11
     numbers_of(s, c, again);
     return memcmp(numbers, again, sizeof again) == 0;
 }
-
-static int fits(size_t memory_length) { return memory_length % 32 == 0 && memory_length <= SA110_MEMORY_MAX; }
 
 /* What a reading is to answer, and the state and the record that it is to leave. */
 static uint32_t expect_read(size_t n, const uint8_t *text, size_t length, struct sa110_state *s, struct sa110_cp15 *c) {
@@ -921,10 +1146,10 @@ static void sound_numbers(uint64_t *n, size_t length) {
     n[28] = up_to(calls - dirty);
 }
 
-/* A machine of such numbers; memory and cache store are not lent. */
+/* A machine of such numbers; memory, map and cache store are not lent. */
 static struct machine sound_machine(size_t length) {
     static uint64_t numbers[NUMBERS];
-    struct machine m = {lend(sizeof(struct sa110_state)), lend(sizeof(struct sa110_cp15)), lend(0), lend(0)};
+    struct machine m = {lend(sizeof(struct sa110_state)), lend(sizeof(struct sa110_cp15)), lend(0), lend(0), lend(0)};
     memset(m.state.at, 0, m.state.length);
     sound_numbers(numbers, length);
     if (!pack_text(numbers, state(&m), cp15(&m)) || (fits(length) && sa110_sound(state(&m), cp15(&m), length) == 0)) {
@@ -988,7 +1213,8 @@ static void longest_text(void) {
 }
 
 static size_t run(struct machine *m, const uint32_t *calls, size_t n, uint64_t *answers) {
-    return sa110_run(state(m), cp15(m), m->memory.at, m->memory.length, m->store.at, m->store.length, calls, n * SA110_FIELDS, answers, n);
+    return sa110_run(state(m), cp15(m), m->memory.at, m->memory.length, m->bad.at, m->bad.length, m->store.at, m->store.length, calls, n * SA110_FIELDS,
+                     answers, n);
 }
 
 /* A run that is stopped behind any of its calls, stored, read back over another state and record, and carried on. */
@@ -1041,14 +1267,29 @@ static uint32_t report_texts(void) {
     return missing;
 }
 
+/* Prints what was met of maps and bad words; gives how much was not. */
+static uint32_t report_maps(void) {
+    printf("refused by 4 where 16 holds, too: %llu, by 16 where 5 does: %llu\n", (unsigned long long)length_before_map,
+           (unsigned long long)map_before_count);
+    printf("line fills aborted, load served %llu, fault %llu\n", (unsigned long long)aborted_served, (unsigned long long)aborted_faults);
+    printf("lists on the plain machine refused by 1 and 16: %llu %llu, made: %llu, calls counted %llu\n", (unsigned long long)plain_refused[1],
+           (unsigned long long)plain_refused[SA110_REFUSED_MAP], (unsigned long long)plain_refused[0], (unsigned long long)plain_served);
+    printf("walks with mapping %llu, faults 12, 14, 5, 7: %llu %llu %llu %llu\n", (unsigned long long)walks[0], (unsigned long long)walks[12],
+           (unsigned long long)walks[14], (unsigned long long)walks[5], (unsigned long long)walks[7]);
+    return (length_before_map == 0) + (map_before_count == 0) + (aborted_served == 0) + (aborted_faults == 0) + (plain_refused[1] == 0) +
+           (plain_refused[SA110_REFUSED_MAP] == 0) + (plain_served == 0) + (walks[0] == 0) + (walks[12] == 0) + (walks[14] == 0);
+}
+
 /* Prints what was met; gives how much was not. */
 static uint32_t report(uint64_t cases) {
     uint32_t i, missing = 0;
-    printf("cases %llu, served %llu, no call %llu\nrefused by 1 to 12:", (unsigned long long)cases, (unsigned long long)served,
+    printf("cases %llu, served %llu, no call %llu\nrefused by 1 to 12 and 16:", (unsigned long long)cases, (unsigned long long)served,
            (unsigned long long)none);
-    for (i = 1; i <= 12; i++) {
-        printf(" %llu", (unsigned long long)refused[i]);
-        missing += refused[i] == 0;
+    for (i = 1; i <= 16; i++) {
+        if (i <= 12 || i == SA110_REFUSED_MAP) {
+            printf(" %llu", (unsigned long long)refused[i]);
+            missing += refused[i] == 0;
+        }
     }
     printf("\nfaults by status 1, 4 to 15:");
     for (i = 1; i <= 15; i++) {
@@ -1067,7 +1308,7 @@ static uint32_t report(uint64_t cases) {
     printf("calls of a replay %llu, refused by 3 %llu, lines %llu, malformed ones %llu\n", (unsigned long long)replays,
            (unsigned long long)replays_refused, (unsigned long long)replayed, (unsigned long long)malformed);
     missing += replays_refused == 0 || malformed == 0;
-    return missing + report_texts();
+    return missing + report_maps() + report_texts();
 }
 
 int main(int argc, char **argv) {
@@ -1085,6 +1326,8 @@ int main(int argc, char **argv) {
     }
     for (i = 0; i < cases; i++) {
         one_case();
+        one_plain();
+        one_walk();
         one_replay();
     }
     longest_text();
@@ -1093,7 +1336,7 @@ int main(int argc, char **argv) {
         one_stop();
     }
     if (report(cases) > 0 && cases >= 2000) {
-        fail("not every refusal, status, swap, look, end of a replay and answer of a text was met");
+        fail("not every refusal, status, swap, look, aborted fill, walk, end of a replay and answer of a text was met");
     }
     printf("damaged: ok\n");
     return 0;

@@ -39,6 +39,7 @@
 
 static struct sa110_state state;
 static struct sa110_cp15 cp15;
+static uint8_t bad[MEMORY / SA110_WORD_BYTES]; /* the map of bad words: there is none */
 static uint8_t store[SA110_STORE_BYTES];
 static uint8_t *memory;
 static uint32_t *list;
@@ -71,7 +72,8 @@ static void mcr(uint32_t n, uint32_t pair, uint32_t value) { call(SA110_WRITE, 1
 /* Makes the calls listed since the last time, and says what they came to. */
 static void make(const char *what) {
     size_t i, n = length - done, served = 0, faults = 0, refused = 0;
-    size_t made = sa110_run(&state, &cp15, memory, MEMORY, store, sizeof store, list + done * SA110_FIELDS, n * SA110_FIELDS, answers + done, n);
+    size_t made = sa110_run(&state, &cp15, memory, MEMORY, bad, sizeof bad, store, sizeof store, list + done * SA110_FIELDS, n * SA110_FIELDS,
+                            answers + done, n);
     for (i = done; i < done + made; i++) {
         served += sa110_kind(answers[i]) == SA110_SERVED;
         faults += sa110_kind(answers[i]) == SA110_FAULT;
@@ -172,7 +174,7 @@ static int plain(void) {
     uint8_t *other = first_memory();
     uint64_t *codes = grown(NULL, length * sizeof *codes);
     size_t i, same = 0, bytes = 0;
-    struct sa110_plain_ran ran = sa110_plain_run(other, MEMORY, list, length * SA110_FIELDS, codes, length);
+    struct sa110_plain_ran ran = sa110_plain_run(other, MEMORY, bad, sizeof bad, list, length * SA110_FIELDS, codes, length);
     for (i = 0; i < length; i++) {
         same += codes[i] == answers[i];
     }

@@ -10,6 +10,7 @@
 
 static struct sa110_replay replay;
 static uint8_t memory[65536];
+static uint8_t bad[sizeof memory / SA110_WORD_BYTES]; /* the map of bad words: there is none */
 static uint8_t store[SA110_STORE_BYTES];
 static uint8_t text[BLOCK];
 static uint8_t out[BLOCK];
@@ -18,7 +19,7 @@ static uint8_t out[BLOCK];
 static int part(size_t length, uint32_t ends) {
     size_t at = 0;
     do {
-        if (sa110_replay(&replay, memory, sizeof memory, store, sizeof store, text + at, length - at, ends, out, sizeof out) != 0) {
+        if (sa110_replay(&replay, memory, sizeof memory, bad, sizeof bad, store, sizeof store, text + at, length - at, ends, out, sizeof out) != 0) {
             fprintf(stderr, "replay: the replay is unsound\n");
             return 0;
         }

@@ -11,6 +11,7 @@
 static struct sa110_state state;
 static struct sa110_cp15 cp15;
 static uint8_t memory[MEMORY];
+static uint8_t bad[MEMORY / SA110_WORD_BYTES]; /* the map of bad words: there is none */
 static uint8_t store[SA110_STORE_BYTES];
 
 /* The calls made, and their answers. */
@@ -39,7 +40,7 @@ static void call(uint32_t kind, uint32_t privileged, uint32_t n, uint32_t a, uin
     if (kind == SA110_WRITE && n >= SA110_CACHE) {
         sprintf(text + at, " (%u,%u)", a / 16, a % 16);
     }
-    uint64_t answer = sa110_call(&state, &cp15, memory, sizeof memory, store, sizeof store, kind, privileged, n, a, v);
+    uint64_t answer = sa110_call(&state, &cp15, memory, sizeof memory, bad, sizeof bad, store, sizeof store, kind, privileged, n, a, v);
     printf("%-48s ", text);
     switch (sa110_kind(answer)) {
     case SA110_SERVED:
@@ -67,7 +68,7 @@ static void cache(uint32_t pair, uint32_t address) { call(SA110_WRITE, 1, SA110_
 
 /* Looks at an address, and prints where its line lies and the word there. */
 static void look(uint32_t address) {
-    uint64_t found = sa110_look(&state, &cp15, memory, sizeof memory, store, sizeof store, address);
+    uint64_t found = sa110_look(&state, &cp15, memory, sizeof memory, bad, sizeof bad, store, sizeof store, address);
     const uint8_t *line = sa110_line(found, memory, store);
     char text[64];
     uint32_t word;
@@ -159,7 +160,7 @@ static int plain(void) {
     static uint64_t codes[CALLS];
     size_t i, same = 0, bytes = 0;
     memset(other, 0, sizeof other);
-    struct sa110_plain_ran ran = sa110_plain_run(other, sizeof other, list, made * SA110_FIELDS, codes, CALLS);
+    struct sa110_plain_ran ran = sa110_plain_run(other, sizeof other, bad, sizeof bad, list, made * SA110_FIELDS, codes, CALLS);
     for (i = 0; i < made; i++) {
         same += codes[i] == answers[i];
     }
@@ -178,7 +179,7 @@ static int in_one_run(void) {
     static uint8_t memory2[MEMORY], store2[SA110_STORE_BYTES];
     static uint64_t codes[CALLS];
     uint32_t refusal = sa110_start(&state2, &cp15_2, memory2, sizeof memory2, store2, sizeof store2);
-    size_t n = sa110_run(&state2, &cp15_2, memory2, sizeof memory2, store2, sizeof store2, list, made * SA110_FIELDS, codes, CALLS);
+    size_t n = sa110_run(&state2, &cp15_2, memory2, sizeof memory2, bad, sizeof bad, store2, sizeof store2, list, made * SA110_FIELDS, codes, CALLS);
     int same = refusal == 0 && n == made && memcmp(codes, answers, made * sizeof *codes) == 0 && sa110_same_state(&state2, &state) &&
                memcmp(&cp15_2, &cp15, sizeof cp15) == 0 && memcmp(memory2, memory, sizeof memory) == 0 && memcmp(store2, store, sizeof store) == 0;
     printf("The list in one run: %zu calls made; answers, state, record, memory and cache store %s\n", n, same ? "the same" : "differ");

@@ -11,6 +11,7 @@ const MEMORY: usize = 0x40000;
 struct Session {
     machine: Machine,
     memory: Vec<u8>,
+    bad: Vec<u8>,
     store: Vec<u8>,
     list: Vec<u32>,
     answers: Vec<u64>,
@@ -23,6 +24,7 @@ impl Session {
         let session = Session {
             machine,
             memory,
+            bad: no_bad_words(MEMORY),
             store,
             list: Vec::new(),
             answers: Vec::new(),
@@ -35,7 +37,7 @@ impl Session {
         let numbers = [kind, privileged, n, a, v];
         let code = self
             .machine
-            .call(&mut self.memory, &mut self.store, &numbers);
+            .call(&mut self.memory, &self.bad, &mut self.store, &numbers);
         let answer = match Answer::of(code) {
             Answer::Value(value) => format!("value {value:08x}"),
             Answer::Fault { status, domain } => {
@@ -75,7 +77,9 @@ impl Session {
 
     /// Looks at an address, and prints where its line lies and the word there.
     fn look(&self, address: u32) {
-        let found = self.machine.look(&self.memory, &self.store, address);
+        let found = self
+            .machine
+            .look(&self.memory, &self.bad, &self.store, address);
         let place = match found {
             Look::OfStore(at) => format!("cache store {at:05x}"),
             Look::OfMemory(at) => format!("memory {at:05x}"),
@@ -177,7 +181,7 @@ impl Session {
     fn plain(&self) -> bool {
         let mut memory = vec![0; MEMORY];
         let mut codes = vec![0; self.answers.len()];
-        let ran = plain_run(&mut memory, &self.list, &mut codes);
+        let ran = plain_run(&mut memory, &self.bad, &self.list, &mut codes);
         let same = codes
             .iter()
             .zip(&self.answers)
@@ -200,9 +204,9 @@ impl Session {
     fn in_one_run(&self) -> bool {
         let (mut other, refusal) = Session::start();
         let mut codes = vec![0; self.answers.len()];
-        let made = other
-            .machine
-            .run(&mut other.memory, &mut other.store, &self.list, &mut codes);
+        let (memory, store) = (&mut other.memory, &mut other.store);
+        let machine = &mut other.machine;
+        let made = machine.run(memory, &other.bad, store, &self.list, &mut codes);
         let same = refusal == 0
             && made == self.answers.len()
             && codes == self.answers

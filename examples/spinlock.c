@@ -19,6 +19,7 @@
 static struct sa110_state state;
 static struct sa110_cp15 cp15;
 static uint8_t memory[MEMORY];
+static uint8_t bad[MEMORY / SA110_WORD_BYTES]; /* the map of bad words: there is none */
 static uint8_t store[SA110_STORE_BYTES];
 
 /* The calls made, and their answers. */
@@ -76,7 +77,7 @@ static uint64_t call(const struct caller *who, uint32_t kind, uint32_t n, uint32
     if (made == CALLS) {
         return (uint64_t)SA110_NO_CALL << 32;
     }
-    uint64_t answer = sa110_call(&state, &cp15, memory, sizeof memory, store, sizeof store, kind, who->privileged, n, a, v);
+    uint64_t answer = sa110_call(&state, &cp15, memory, sizeof memory, bad, sizeof bad, store, sizeof store, kind, who->privileged, n, a, v);
     if (state.counts.hits != before.hits) {
         did = "hit";
     } else if (state.counts.fills != before.fills) {
@@ -222,7 +223,7 @@ static int plain(void) {
     static uint64_t codes[CALLS];
     size_t i, same = 0, bytes = 0;
     memset(other, 0, sizeof other);
-    struct sa110_plain_ran ran = sa110_plain_run(other, sizeof other, list, made * SA110_FIELDS, codes, CALLS);
+    struct sa110_plain_ran ran = sa110_plain_run(other, sizeof other, bad, sizeof bad, list, made * SA110_FIELDS, codes, CALLS);
     for (i = 0; i < made; i++) {
         same += codes[i] == answers[i];
     }
@@ -241,7 +242,7 @@ static int in_one_run(void) {
     static uint8_t memory2[MEMORY], store2[SA110_STORE_BYTES];
     static uint64_t codes[CALLS];
     uint32_t refusal = sa110_start(&state2, &cp15_2, memory2, sizeof memory2, store2, sizeof store2);
-    size_t n = sa110_run(&state2, &cp15_2, memory2, sizeof memory2, store2, sizeof store2, list, made * SA110_FIELDS, codes, CALLS);
+    size_t n = sa110_run(&state2, &cp15_2, memory2, sizeof memory2, bad, sizeof bad, store2, sizeof store2, list, made * SA110_FIELDS, codes, CALLS);
     int same = refusal == 0 && n == made && memcmp(codes, answers, made * sizeof *codes) == 0 && sa110_same_state(&state2, &state) &&
                memcmp(&cp15_2, &cp15, sizeof cp15) == 0 && memcmp(memory2, memory, sizeof memory) == 0 && memcmp(store2, store, sizeof store) == 0;
     printf("The list in one run: %zu calls made; answers, state, record, memory and cache store %s\n", n, same ? "the same" : "differ");

@@ -1,8 +1,8 @@
 /* A run that is stopped and carried on in another process. The run is a list of calls, such as tools/lackey-calls makes of a recorded program, on 16 MB of
- * zero bytes. `whole` makes all of it. `first` makes the first N calls and writes four files: the text of state and record, memory, cache store, and the
- * number of calls made with the checksum of their answers. `then` reads these files and makes the other calls. Each prints the counts, what is in use,
- * and checksums of all answers, of memory, of the cache store and of the last state's text; `then` prints what `whole` prints, wherever the run was
- * stopped. examples/stop.py does such a thing in Python. */
+ * zero bytes without bad words. `whole` makes all of it. `first` makes the first N calls and writes four files: the text of state and record, memory, cache
+ * store, and the number of calls made with the checksum of their answers. `then` reads these files and makes the other calls. Each prints the counts, what
+ * is in use, and checksums of all answers, of memory, of the cache store and of the last state's text; `then` prints what `whole` prints, wherever the run
+ * was stopped. examples/stop.py does such a thing in Python. */
 #include "sa110.h"
 #include <errno.h>
 #include <stdarg.h>
@@ -17,6 +17,7 @@
 static struct sa110_state state;
 static struct sa110_cp15 cp15;
 static uint8_t memory[SA110_MEMORY_MAX];
+static uint8_t bad[SA110_MEMORY_MAX / SA110_WORD_BYTES]; /* the map of bad words: there is none */
 static uint8_t store[SA110_STORE_BYTES];
 static uint8_t text[SA110_TEXT_MAX];
 
@@ -155,8 +156,8 @@ static void run_to(size_t end) {
     static uint64_t answers[BLOCK];
     while (progress.made < end) {
         size_t n = end - progress.made < BLOCK ? end - progress.made : BLOCK;
-        size_t made = sa110_run(&state, &cp15, memory, sizeof memory, store, sizeof store, list + progress.made * SA110_FIELDS, n * SA110_FIELDS,
-                                answers, n);
+        size_t made = sa110_run(&state, &cp15, memory, sizeof memory, bad, sizeof bad, store, sizeof store, list + progress.made * SA110_FIELDS,
+                                n * SA110_FIELDS, answers, n);
         progress.answers = checksum(progress.answers, answers, made * sizeof *answers);
         progress.made += made;
         if (made < n) {

@@ -1,12 +1,14 @@
-"""A run that is stopped and carried on in another process, from Python: makes the first calls of a list, saves the machine to a file, and has a second
-process load it, make the other calls and save it again. Compares with the unbroken run and the plain machine. Then tries texts and files that are refused,
-and saves that fail, which leave all as it was. It ends with status 0 if all agree. examples/stop.c stops the run of a recorded program in C."""
+"""A run that is stopped and carried on in another process, from Python: makes the first calls of a list on a memory with bad words, saves the machine to a
+file, and has a second process load it, make the other calls and save it again. Compares with the unbroken run and the plain machine. Then tries texts and
+files that are refused, and saves that fail, which leave all as it was. It ends with status 0 if all agree. examples/stop.c stops the run of a recorded
+program in C."""
 
 import os
 import resource
 import subprocess
 import sys
 import tempfile
+import zipfile
 
 sys.path.insert(0, os.path.join(os.path.dirname(os.path.abspath(__file__)), "..", "bindings", "python"))
 import sa110
@@ -14,6 +16,14 @@ from sa110 import A, C, CACHE, CONTROL, LOAD, M, STORE, SWAP, W, WRITE
 
 MEMORY = 0x40000
 STOP = 900  # calls of the first process
+
+
+def board():
+    """A machine at the start; from 10010 on one word in 256 is bad."""
+    m = sa110.Machine(MEMORY)
+    for address in range(0x10010, MEMORY, 0x400):
+        m.bad[address // 4] = 1
+    return m
 
 
 def calls():
@@ -42,13 +52,14 @@ def then(file):
 
 
 def print_machine(what, m):
+    faults, dirty = sum(a.kind == "fault" for a in m.answers), sum((w >> 1 & 1) + (w >> 2 & 1) for w in m.state.lines)
     print(f"{what}: {len(m.calls)} calls made, {m.counts}")
-    print(f"  write buffer entries {m.state.used}, dirty halves {sum((w >> 1 & 1) + (w >> 2 & 1) for w in m.state.lines)}, text {len(m.store_text())} bytes")
+    print(f"  faults {faults}, write buffer entries {m.state.used}, dirty halves {dirty}, text {len(m.store_text())} bytes")
 
 
 def stopped(file, library):
     """The run that is stopped, carried on by another process."""
-    m = sa110.Machine(MEMORY)
+    m = board()
     m.run(calls()[:STOP])
     sa110.save(m, file)
     print_machine("Stopped", m)
@@ -61,7 +72,7 @@ def stopped(file, library):
 def compare(m, whole):
     same = m.same(whole) and m.calls == whole.calls and m.answers == whole.answers
     plain = m.plain()[0] == m.answers
-    print(f"State, record, memory, cache store, calls and answers are the unbroken run's: {same}; the answers are the plain machine's: {plain}")
+    print(f"State, record, memory, map, cache store, calls and answers are the unbroken run's: {same}; the answers are the plain machine's: {plain}")
     return same and plain
 
 
@@ -98,18 +109,37 @@ def save_without_room(m, file):
         resource.setrlimit(resource.RLIMIT_FSIZE, limits)
 
 
-def refused_files(m, file):
-    """A damaged file and saves that fail, behind which the good file is as it was, with no other beside it."""
-    with open(file, "rb") as f:
-        good = f.read()
+def refused_files(file, good):
+    """Loads of damaged files."""
     at = good.index(b"PK\1\2") + 16  # in the zip file's directory the checksum of the first member
     with open("damaged", "wb") as f:
         f.write(good[:at] + bytes([good[at] ^ 1]) + good[at + 1 :])
     tried = [raised("a file with a bit changed", sa110.StateError, lambda: sa110.load("damaged"))]
+    with zipfile.ZipFile(file) as old, zipfile.ZipFile("damaged", "w") as new:
+        for name in old.namelist():
+            new.writestr(name, b"\2" + old.read(name)[1:] if name == "bad.bin" else old.read(name))
+    tried.append(raised("a file whose map has a byte of 2", sa110.StateError, lambda: sa110.load("damaged")))
     os.remove("damaged")
-    tried.append(raised("a save without room for the file", OSError, lambda: save_without_room(m, file)))
+    return all(tried)
+
+
+def refused_saves(m, file):
+    """Saves that fail, and a call that is refused."""
+    tried = [raised("a save without room for the file", OSError, lambda: save_without_room(m, file))]
+    m.bad = m.bad[:-1]
+    tried.append(raised("a save with a map that is too short", sa110.StateError, lambda: sa110.save(m, file)))
+    print(f"  a load with it: {m.load(4, 0)}")
     m.state.used = 9
     tried.append(raised("a save of an unsound state", sa110.StateError, lambda: sa110.save(m, file)))
+    return all(tried)
+
+
+def refused(m, whole, file):
+    """Texts and files that are refused, behind which the good file is as it was, with no other beside it."""
+    print("Refused:")
+    with open(file, "rb") as f:
+        good = f.read()
+    tried = [refused_texts(m, whole), refused_files(file, good), refused_saves(m, file)]
     with open(file, "rb") as f:
         return all(tried) and f.read() == good and os.listdir() == [file]
 
@@ -130,17 +160,15 @@ def main():
         return 2
     if len(sys.argv) == 3:
         return then(sys.argv[2])
-    whole = sa110.Machine(MEMORY)
+    whole = board()
     whole.run(calls())
     print_machine("The unbroken run", whole)
     with tempfile.TemporaryDirectory() as folder:
         os.chdir(folder)
         m = stopped("stopped.zip", library)
         agree = compare(m, whole)
-        print("Refused:")
-        texts, files = refused_texts(m, whole), refused_files(m, "stopped.zip")
+        agree = refused(m, whole, "stopped.zip") and agree
         os.chdir(os.path.dirname(folder))
-    agree = agree and texts and files
     print("all agree" if agree else "NOT ALL AGREE")
     return 0 if agree else 1
 

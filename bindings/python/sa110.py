@@ -7,16 +7,21 @@
     print(m.swap(4, 0x8000, 1))                 # a swap of a word: 1 is stored, and the answer is the old value
     print(m.load(4, 0x4004), m.counts)          # an answer, and the five counts
     answers, plain, memory = m.plain()          # the calls made so far, on the plain machine
+    m.bad[0x8000 // 4] = 1                      # from here on the word at physical address 0x8000 aborts; no word is bad at the start
     sa110.save(m, "stopped.zip")                # the machine in a file
     m = sa110.load("stopped.zip")               # and back, in another process too, to carry on
     print(sa110.replay("3,1,1,0,0\\n"), end="")   # a trace kept as text, replayed on 65,536 zero bytes: 1,0,112
 
-include/sa110.h says what each function of the library does; document 01, and document 02 for replays, swaps and stored texts, is the authority on every
-meaning. What the library refuses of a start or a call is an answer. A ValueError is raised for numbers that do not fit into 32 bits and for a memory and
-a cache store that are one bytearray, a TypeError for arguments of another type (memory is a length, or a bytearray, whose bytes the calls change; anything
-else that has bytes is copied), and an OSError where the shared object is missing. A replay raises a ValueError where it is fed behind its end, and where
-its struct's fields are outside their ranges. A StateError, which is a ValueError, is raised where a machine cannot be stored as text or saved, or a text or
-a file cannot be read back; an OSError where a file cannot be opened, read or written.
+include/sa110.h says what each function of the library does; document 01, and document 02 for replays, swaps, stored texts and bad words, is the authority
+on every meaning. What the library refuses of a start or a call is an answer. A ValueError is raised for numbers that do not fit into 32 bits and for a
+memory, a cache store or a map of which two are one bytearray, a TypeError for arguments of another type (memory is a length, or a bytearray, whose bytes
+the calls change; anything else that has bytes is copied), and an OSError where the shared object is missing. A replay raises a ValueError where it is fed
+behind its end, and where its struct's fields are outside their ranges. A StateError, which is a ValueError, is raised where a machine cannot be stored as
+text or saved, or a text or a file cannot be read back; an OSError where a file cannot be opened, read or written.
+
+The map of bad words, `bad`, is a bytearray with a byte for each word of memory: 1 for a word that aborts, 0 for a good one. Where it is not given, it has
+zeros. Another length than a quarter of memory's, and a byte above 1, are refused by 16 in each call's answer. What is said of a run, as that the plain
+machine answers the same, holds where the map stays the same from the start on.
 """
 
 import ctypes
@@ -30,6 +35,7 @@ from operator import index
 from typing import NamedTuple, Optional
 
 STORE_BYTES = 16384
+WORD_BYTES = 4  # the map of bad words has a byte for each word of memory
 FIELDS = 5
 TRACE_LINE = 64  # bytes of the longest line of a trace as text, with its line feed
 PRINTED_LINE = 34  # bytes of the longest line that a replay prints, with its line feed
@@ -65,8 +71,8 @@ PERMISSION_SECTION, PERMISSION_PAGE = 13, 15
 FILL_SECTION, FILL_PAGE = 4, 6
 OTHER_SECTION, OTHER_PAGE = 8, 10
 
-# Refusals, 1 to 12 in the order in which they are tested; a line of a trace as text meets 13 before all others. Storing a state as text meets 1, 3, 4
-# and 15, and reading one back 1, 14, 3 and 4, each in this order.
+# Refusals. A start meets 1 and 2, an access 1 to 4, 16 and 5 to 7, a CP15 call 1 to 4, 16, 5 and 8 to 12; storing a state as text 1, 3, 4 and 15, and
+# reading one back 1, 14, 3 and 4; each in this order. A line of a trace as text meets 13 before all others.
 (
     REFUSED_MEMORY,
     REFUSED_STORE,
@@ -83,7 +89,8 @@ OTHER_SECTION, OTHER_PAGE = 8, 10
     REFUSED_LINE,
     REFUSED_TEXT,
     REFUSED_ROOM,
-) = range(1, 16)
+    REFUSED_MAP,
+) = range(1, 17)
 
 REFUSALS = {
     1: "the memory's length is not a multiple of 32 or exceeds 16,777,216",
@@ -101,21 +108,22 @@ REFUSALS = {
     13: "a line of a trace as text departs from its form",
     14: "the text of a state departs from its form",
     15: "the slice lent for the text of a state is too short",
+    16: "the map's length is not a quarter of memory's, or a byte of it exceeds 1",
 }
 
 STATUSES = {
     1: "alignment",
-    4: "outside memory on a line fill, section",
+    4: "outside memory or a bad word on a line fill, section",
     5: "translation, section",
-    6: "outside memory on a line fill, page",
+    6: "outside memory or a bad word on a line fill, page",
     7: "translation, page",
-    8: "outside memory, section",
+    8: "outside memory or a bad word, section",
     9: "domain, section",
-    10: "outside memory, page",
+    10: "outside memory or a bad word, page",
     11: "domain, page",
-    12: "walk outside memory, level 1",
+    12: "walk outside memory or at a bad word, level 1",
     13: "permission, section",
-    14: "walk outside memory, level 2",
+    14: "walk outside memory or at a bad word, level 2",
     15: "permission, page",
 }
 
@@ -277,20 +285,20 @@ def load_library(path=None):
     if not os.path.exists(path):
         raise OSError(f"sa110: {path} is missing; tools/hosts makes it, and SA110_LIBRARY names another place")
     library = ctypes.CDLL(os.path.abspath(path))
-    memory = [POINTER(c_uint8), c_size_t]
+    slice_ = [POINTER(c_uint8), c_size_t]
     calls = [POINTER(c_uint32), c_size_t, POINTER(c_uint64), c_size_t]
-    lent = [POINTER(State), POINTER(Cp15)] + memory + memory
+    state = [POINTER(State), POINTER(Cp15)]
     functions = {
-        "sa110_start": (c_uint32, lent),
-        "sa110_call": (c_uint64, lent + [c_uint32] * 5),
-        "sa110_run": (c_size_t, lent + calls),
-        "sa110_look": (c_uint64, lent + [c_uint32]),
-        "sa110_plain_run": (PlainRan, memory + calls),
-        "sa110_replay": (c_uint32, [POINTER(ReplayStruct)] + memory * 3 + [c_uint32] + memory),
-        "sa110_sound": (c_uint32, [POINTER(State), POINTER(Cp15), c_size_t]),
-        "sa110_store_text": (c_uint64, lent),
-        "sa110_read_text": (c_uint32, lent),
-        "sa110_walk": (c_uint64, memory + [c_uint32, c_uint32]),
+        "sa110_start": (c_uint32, state + slice_ * 2),
+        "sa110_call": (c_uint64, state + slice_ * 3 + [c_uint32] * 5),
+        "sa110_run": (c_size_t, state + slice_ * 3 + calls),
+        "sa110_look": (c_uint64, state + slice_ * 3 + [c_uint32]),
+        "sa110_plain_run": (PlainRan, slice_ * 2 + calls),
+        "sa110_replay": (c_uint32, [POINTER(ReplayStruct)] + slice_ * 4 + [c_uint32] + slice_),
+        "sa110_sound": (c_uint32, state + [c_size_t]),
+        "sa110_store_text": (c_uint64, state + slice_ * 2),
+        "sa110_read_text": (c_uint32, state + slice_ * 2),
+        "sa110_walk": (c_uint64, slice_ * 2 + [c_uint32, c_uint32]),
         "sa110_right": (c_uint8, [c_uint32]),
     }
     for name, (result, arguments) in functions.items():
@@ -318,6 +326,18 @@ def _bytes(memory):
     return (c_uint8 * len(memory)).from_buffer(memory), len(memory)
 
 
+def _map(bad, memory):
+    """The map of bad words of a memory as a bytearray; zeros where it is not given."""
+    if bad is memory:
+        raise ValueError("sa110: memory and map are one bytearray")
+    return bad if isinstance(bad, bytearray) else bytearray(len(memory) // WORD_BYTES if bad is None else bad)
+
+
+def _fits(bad, memory):
+    """Whether a map is not refused by 16."""
+    return len(bad) * WORD_BYTES == len(memory) and max(bad, default=0) <= 1
+
+
 def _list(calls):
     """A list of calls, five numbers each, as an array of numbers."""
     flat = [x for call in calls for x in call]
@@ -327,21 +347,24 @@ def _list(calls):
 
 
 class Machine:
-    """A state and its record, with the memory and the cache store that are lent to it, the calls made and their answers."""
+    """A state and its record, with the memory, the map of bad words and the cache store that are lent to it, the calls made and their answers."""
 
-    def __init__(self, memory, store=None):
-        """Starts. The memory is a bytearray, or the length of one of zeros; so is the cache store, 16,384 zeros if absent. `refusal` is 0, 1 or 2."""
+    def __init__(self, memory, store=None, bad=None):
+        """Starts. The memory is a bytearray, or the length of one of zeros; so is the cache store, 16,384 zeros if absent, and so is the map, a byte for
+        each word of memory, zeros if absent, which `bad` then is: m.bad[address // 4] = 1 makes a word bad for the calls that follow. `refusal` is 0, 1
+        or 2."""
         self.memory = memory if isinstance(memory, bytearray) else bytearray(memory)
         self.cache_store = store if isinstance(store, bytearray) else bytearray(STORE_BYTES if store is None else store)
-        if self.memory is self.cache_store:
-            raise ValueError("sa110: memory and cache store are one bytearray")
+        self.bad = _map(bad, self.memory)
+        if self.cache_store is self.memory or self.cache_store is self.bad:
+            raise ValueError("sa110: the cache store and memory or map are one bytearray")
         self.first_memory = bytes(self.memory)
         self.state, self.cp15 = State(), Cp15()
         self.calls, self.answers = [], []
-        self.refusal = _lib().sa110_start(*self._lent())
+        self.refusal = _lib().sa110_start(byref(self.state), byref(self.cp15), *_bytes(self.memory), *_bytes(self.cache_store))
 
     def _lent(self):
-        return byref(self.state), byref(self.cp15), *_bytes(self.memory), *_bytes(self.cache_store)
+        return byref(self.state), byref(self.cp15), *_bytes(self.memory), *_bytes(self.bad), *_bytes(self.cache_store)
 
     def call(self, kind, privileged, n, a, v):
         """Makes a call of five numbers and gives its answer; numbers that are no call are not kept in `calls`."""
@@ -384,7 +407,7 @@ class Machine:
 
     def look(self, address):
         """Where the line of a virtual address is to be read, which is no call: 'cache store', 'memory' or 'nowhere', the offset of the line's first
-        byte, and its 32 bytes or None."""
+        byte, and its 32 bytes or None. The bytes of bad words are shown, too."""
         found = _lib().sa110_look(*self._lent(), *_numbers(address))
         place, offset = found >> 32, found & 0xFFFFFFFF
         if place == 0:
@@ -393,11 +416,11 @@ class Machine:
         return Look(("cache store", "memory")[place - 1], offset, bytes(held[offset : offset + 32]))
 
     def plain(self):
-        """Makes the calls made so far on the plain machine: its answers, what it leaves, its memory."""
+        """Makes the calls made so far on the plain machine, with the map as it now is: its answers, what it leaves, its memory."""
         if self.first_memory is None:
             raise ValueError("sa110: a text was read back, and the calls before it are not known")
         memory = bytearray(self.first_memory)
-        answers, ran = plain_run(memory, self.calls)
+        answers, ran = plain_run(memory, self.calls, self.bad)
         return answers, ran, memory
 
     def sound(self):
@@ -405,8 +428,8 @@ class Machine:
         return _lib().sa110_sound(byref(self.state), byref(self.cp15), len(self.memory)) == 1
 
     def store_text(self):
-        """State and record as text, bytes, in the form that include/sa110.h describes. Memory and cache store are not in it. Raises a StateError where
-        it is refused by 1, 3 or 4."""
+        """State and record as text, bytes, in the form that include/sa110.h describes. Memory, cache store and map are not in it. Raises a StateError
+        where it is refused by 1, 3 or 4."""
         text = bytearray(TEXT_MAX)
         answer = Answer(_lib().sa110_store_text(byref(self.state), byref(self.cp15), *_bytes(self.memory), *_bytes(text)))
         if answer.kind != "value":
@@ -414,9 +437,9 @@ class Machine:
         return bytes(text[: answer.value])
 
     def read_text(self, text):
-        """Takes state and record from a text, bytes or str; memory and cache store are to be those of the run that was stored. `calls` and `answers`
-        begin anew, and `plain` raises a ValueError from then on. Raises a StateError where the text is refused by 1, 14, 3 or 4 (a shorter memory than the
-        start's may be refused by 3, for a line that lies outside it); then nothing has changed."""
+        """Takes state and record from a text, bytes or str; memory, cache store and map are to be those of the run that was stored. `calls` and
+        `answers` begin anew, and `plain` raises a ValueError from then on. Raises a StateError where the text is refused by 1, 14, 3 or 4 (a shorter memory
+        than the start's may be refused by 3, for a line that lies outside it); then nothing has changed."""
         self.state, self.cp15 = _read_text(text, self.memory, "reading")
         self.calls, self.answers, self.first_memory = [], [], None
 
@@ -425,10 +448,10 @@ class Machine:
         return _counts(self.state)
 
     def same(self, other):
-        """Whether state, record, memory and cache store are those of another machine."""
+        """Whether state, record, memory, map and cache store are those of another machine."""
         fields = all(_value(getattr(self.state, name)) == _value(getattr(other.state, name)) for name, _ in State._fields_)
         record = bytes(self.cp15) == bytes(other.cp15)
-        return fields and record and self.memory == other.memory and self.cache_store == other.cache_store
+        return fields and record and self.memory == other.memory and self.bad == other.bad and self.cache_store == other.cache_store
 
 
 def _read_text(text, memory, what):
@@ -442,13 +465,15 @@ def _read_text(text, memory, what):
 
 
 def save(machine, path):
-    """Writes a machine to a file, which `load` reads: a zip file of state.txt (the text of state and record), memory.bin and store.bin; and, unless a text
-    was read into the machine, of first.bin (the memory at the start), calls.bin (five numbers of 32 bits a call) and answers.bin (64 bits each), both
-    little-endian. Of a machine into which a text was read, calls and answers are not kept. Raises a StateError where the state is refused by 1, 3 or 4 or
-    the cache store by 2, and an OSError where the file cannot be written; a file that had this name is then as it was."""
+    """Writes a machine to a file, which `load` reads: a zip file of state.txt (the text of state and record), memory.bin, bad.bin (the map) and store.bin;
+    and, unless a text was read into the machine, of first.bin (the memory at the start), calls.bin (five numbers of 32 bits a call) and answers.bin (64
+    bits each), both little-endian. Of a machine into which a text was read, calls and answers are not kept. Raises a StateError where the state is refused
+    by 1, 3 or 4, the cache store by 2 or the map by 16, and an OSError where the file cannot be written; a file that had this name is then as it was."""
     if len(machine.cache_store) != STORE_BYTES:
         raise StateError("saving", REFUSED_STORE)
-    members = {"state.txt": machine.store_text(), "memory.bin": machine.memory, "store.bin": machine.cache_store}
+    members = {"state.txt": machine.store_text(), "memory.bin": machine.memory, "bad.bin": machine.bad, "store.bin": machine.cache_store}
+    if not _fits(machine.bad, machine.memory):
+        raise StateError("saving", REFUSED_MAP)
     if machine.first_memory is not None:
         answers = (c_uint64 * len(machine.answers))(*machine.answers)
         members.update({"first.bin": machine.first_memory, "calls.bin": _list(machine.calls)[0], "answers.bin": answers})
@@ -475,8 +500,8 @@ def _replace(path, content):
 
 
 def load(path):
-    """The machine that `save` wrote to a file; a load of an address is Machine.load. Raises a StateError where the file is damaged or its text refused, and
-    an OSError where it cannot be read."""
+    """The machine that `save` wrote to a file; a load of an address is Machine.load. In a file without bad.bin no word is bad. Raises a StateError where the
+    file is damaged or its text, cache store or map refused, and an OSError where it cannot be read."""
     path = os.fsdecode(path)
     with open(path, "rb") as file:
         content = file.read()
@@ -490,8 +515,10 @@ def load(path):
         raise StateError(f"{path} has no {min(missing)}")
     if len(held["store.bin"]) != STORE_BYTES:
         raise StateError(path, REFUSED_STORE)
-    machine = Machine(bytearray(held["memory.bin"]), bytearray(held["store.bin"]))
+    machine = Machine(bytearray(held["memory.bin"]), bytearray(held["store.bin"]), held.get("bad.bin"))
     machine.state, machine.cp15 = _read_text(held["state.txt"], machine.memory, path)
+    if not _fits(machine.bad, machine.memory):
+        raise StateError(path, REFUSED_MAP)
     machine.first_memory, machine.calls, machine.answers = _history(held, path)
     return machine
 
@@ -513,13 +540,13 @@ class Replay:
     """A replay of a trace kept as text: a call a line, five decimal fields parted by commas, in the order of a call's numbers; no swaps. Each line prints
     one: its number, 0 served or 1 fault or 2 refused, and the value. A line that departs from this is printed as refused by 13 and is the last one."""
 
-    def __init__(self, memory=65536, store=None, room=65536):
-        """Starts; memory and cache store are given as to Machine. `refusal` is 0, 1 or 2. `room` is the length, at least 1, of the slice that is lent
-        for the lines printed; it does not change what is printed."""
+    def __init__(self, memory=65536, store=None, room=65536, bad=None):
+        """Starts; memory, cache store and map are given as to Machine. `refusal` is 0, 1 or 2. `room` is the length, at least 1, of the slice that is
+        lent for the lines printed; it does not change what is printed."""
         if room < 1:
             raise ValueError("sa110: a slice for the lines printed has at least one byte")
-        fresh = Machine(memory, store)
-        self.memory, self.cache_store, self.refusal = fresh.memory, fresh.cache_store, fresh.refusal
+        fresh = Machine(memory, store, bad)
+        self.memory, self.bad, self.cache_store, self.refusal = fresh.memory, fresh.bad, fresh.cache_store, fresh.refusal
         self.struct = ReplayStruct(fresh.state, fresh.cp15)
         self.room = (c_uint8 * index(room))()
         self.ended = False
@@ -563,7 +590,7 @@ class Replay:
         lent = (c_uint8 * max(1, len(text))).from_buffer_copy(text or b"\0")
         while True:
             rest = (c_uint8 * 0).from_buffer(lent, at), len(text) - at
-            slices = *_bytes(self.memory), *_bytes(self.cache_store), *rest
+            slices = *_bytes(self.memory), *_bytes(self.bad), *_bytes(self.cache_store), *rest
             if _lib().sa110_replay(byref(self.struct), *slices, ends, self.room, len(self.room)) != 0:
                 raise ValueError("sa110: the replay's fields are outside their ranges")
             printed += memoryview(self.room)[: self.struct.written]
@@ -572,9 +599,9 @@ class Replay:
                 return bytes(printed)
 
 
-def replay(text):
-    """Replays a whole text, bytes or str, on 65,536 zero bytes, and gives the lines that it prints, of the same kind."""
-    trace = Replay()
+def replay(text, bad=None):
+    """Replays a whole text, bytes or str, on 65,536 zero bytes, and gives the lines that it prints, of the same kind. No word is bad without a map."""
+    trace = Replay(bad=bad)
     if not isinstance(text, str):
         return trace.feed(text) + trace.finish()
     return (trace.feed(text.encode("utf-8", "surrogatepass")) + trace.finish()).decode("ascii")
@@ -588,17 +615,18 @@ def _value(x):
     return x if isinstance(x, int) else bytes(x)
 
 
-def plain_run(memory, calls):
-    """Makes a list of calls on the plain machine over a bytearray: the answers of the calls made, and what it leaves."""
+def plain_run(memory, calls, bad=None):
+    """Makes a list of calls on the plain machine over a bytearray, with a map or no bad word: the answers of the calls made, and what it leaves."""
     calls = list(calls)
     answers = (c_uint64 * len(calls))()
-    ran = _lib().sa110_plain_run(*_bytes(memory), *_list(calls), answers, len(calls))
+    ran = _lib().sa110_plain_run(*_bytes(memory), *_bytes(_map(bad, memory)), *_list(calls), answers, len(calls))
     return [Answer(x) for x in answers[: ran.made]], ran
 
 
-def walk(memory, base, va):
-    """A walk over a bytearray: the word of a TLB entry, which is odd, or twice the fault's domain × 16 + status."""
-    return _lib().sa110_walk(*_bytes(memory), *_numbers(base, va))
+def walk(memory, base, va, bad=None):
+    """A walk over a bytearray: the word of a TLB entry, which is odd, or twice the fault's domain × 16 + status. A map may have any length here; words
+    behind its end are good."""
+    return _lib().sa110_walk(*_bytes(memory), *_bytes(_map(bad, memory)), *_numbers(base, va))
 
 
 def right(i):
