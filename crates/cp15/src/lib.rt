@@ -70,7 +70,8 @@ fn clean(
     requires { ⌜ (va .0 < 0x100000000) × CleanReady (now memory) (now words) (now bytes) (now lines) (now store) s ⌝ }
     ensures { λ r.
         ⌜ ((pointers : List ℕ)
-        → Turns (lists (now (memory .entry)) (now (bad .entry)) (now (words .entry)) (now (bytes .entry)) (now (lines .entry)) pointers (now (store .entry))) s
+        → Turns (lists (now (memory .entry)) (now (bad .entry)) (now (words .entry)) (now (bytes .entry)) (now (lines .entry)) pointers
+        (now (store .entry))) s
         (lists (now (memory .exit)) (now (bad .entry)) (now (words .exit)) (now (bytes .exit)) (now (lines .exit)) pointers (now (store .entry))) r
         (λ (m : Machine). spec.cleanedLine m va)) ⌝ }
 {
@@ -99,7 +100,8 @@ fn operate_seven(
     requires { ⌜ (t .register ≡ 7) × (va .0 < 0x100000000) × CleanReady (now memory) (now words) (now bytes) (now lines) (now store) s ⌝ }
     ensures { λ r.
         ⌜ ((pointers : List ℕ)
-        → Turns (lists (now (memory .entry)) (now (bad .entry)) (now (words .entry)) (now (bytes .entry)) (now (lines .entry)) pointers (now (store .entry))) s
+        → Turns (lists (now (memory .entry)) (now (bad .entry)) (now (words .entry)) (now (bytes .entry)) (now (lines .entry)) pointers
+        (now (store .entry))) s
         (lists (now (memory .exit)) (now (bad .entry)) (now (words .exit)) (now (bytes .exit)) (now (lines .exit)) pointers (now (store .entry))) r
         (λ (m : Machine). spec.operated m t va)) ⌝ }
 {

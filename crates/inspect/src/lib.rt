@@ -27,7 +27,8 @@ fn part_code(p: Part) -> u64
 
 // A look, state and record by value.
 fn look_code(state: State, cp15: Cp15, memory: &[u8], bad: &[u8], store: &[u8], va: u32) -> u64
-    ensures { λ r. ⌜ r ≡ lookCode (machineIn (now (memory .entry)) (now (bad .entry)) (now (store .entry)) state cp15) va ⌝ }
+    ensures { λ r. ⌜ r ≡ lookCode
+        (machineIn (now (memory .entry)) (now (bad .entry)) (now (store .entry)) state cp15) va ⌝ }
 {
     let p = sa110::shown(state, cp15, memory, bad, store, VirtualAddress(va));
     part_code(p)
@@ -43,7 +44,8 @@ pub extern "C" fn sa110_look(
     store: &[u8],
     va: u32,
 ) -> u64
-    ensures { λ r. ⌜ r ≡ lookCode (machineIn (now (memory .entry)) (now (bad .entry)) (now (store .entry)) (now (state .entry)) (now (cp15 .entry))) va ⌝ }
+    ensures { λ r. ⌜ r ≡ lookCode
+        (machineIn (now (memory .entry)) (now (bad .entry)) (now (store .entry)) (now (state .entry)) (now (cp15 .entry))) va ⌝ }
 {
     look_code(*state, *cp15, memory, bad, store, va)
 }

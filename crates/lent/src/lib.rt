@@ -80,7 +80,8 @@ pub extern "C" fn sa110_call(
     v: u32,
 ) -> u64
     ensures { λ r.
-        ⌜ coded.answeredOf (now (memory .exit)) (now (bad .entry)) (now (store .exit)) (record { state = now (state .exit); cp15 = now (cp15 .exit); code = r })
+        ⌜ coded.answeredOf (now (memory .exit)) (now (bad .entry)) (now (store .exit))
+        (record { state = now (state .exit); cp15 = now (cp15 .exit); code = r })
         ≡ coded.calledBy (machineIn (now (memory .entry)) (now (bad .entry)) (now (store .entry)) (now (state .entry))
         (now (cp15 .entry))) kind privileged n a v ⌝ }
 {

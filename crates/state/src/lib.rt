@@ -138,7 +138,8 @@ pub fn fresh(size: usize) -> State
 // The start: a fresh state, or refusal 1 or 2 with a state all zeros. It writes to no lent bytes.
 pub fn start(memory: &[u8], store: &[u8]) -> Started
     ensures { λ r.
-        ⌜ ((bad : List ℕ) → startedOf (now (memory .entry)) bad (now (store .entry)) r ≡ starts.started (now (memory .entry)) bad (now (store .entry))) ⌝ }
+        ⌜ ((bad : List ℕ) → startedOf (now (memory .entry)) bad (now (store .entry)) r
+        ≡ starts.started (now (memory .entry)) bad (now (store .entry))) ⌝ }
 {
     let cp15 = values::zero_cp15();
     let refusal = refusals::lent_refusal(memory.len(), store.len());
