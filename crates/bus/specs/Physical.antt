@@ -27,8 +27,8 @@ isBad bad w = eqb (getD bad w 0) 1
 abbrev pub noBadWords : List ℕ → List ℕ
 noBadWords memory = replicate (length memory / 4) 0
 
--- The word of an address aborts: it lies outside memory, or it is bad. Walks, loads, fills, stores and swaps on both machines ask it; no access crosses
--- a word.
+-- The word of an address aborts: it lies outside memory, or it is bad. Walks, loads, fills, unbuffered stores and swaps that miss ask it, and every access
+-- of the plain machine; a buffered store asks `outside`. No access crosses a word.
 unfoldable pub aborts : Physical → PhysicalAddress → Bool
 aborts m pa = outside m pa || isBad (m .bad) (wordOf pa)
 

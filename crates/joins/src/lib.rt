@@ -1,8 +1,8 @@
 // Stores into the write buffer: they join the newest entry of their block, or take a new one.
 ghost use mathlib.Core.Path.{_≡_};
-ghost use mathlib.Core.Bool.{true};
+ghost use mathlib.Core.Bool.{true, false};
 ghost use mathlib.Core.List.{List, []};
-ghost use Prim.Native.Nat.{ℕ, _+_, _<_, _≤_};
+ghost use Prim.Native.Nat.{ℕ, _+_, _/_, _<_, _≤_};
 ghost use lib.Bits.{bitOr};
 ghost use lib.ListN.{length, getD, set};
 ghost use Rattle.words.specs.Words.{isWidth, stored};
@@ -12,8 +12,32 @@ ghost use Rattle.buffer.specs.Ranges.{Fits, Left, Stores};
 use values::PhysicalAddress;
 use values::Search;
 
-// The newest of the first `used` entries that has the block.
-fn newest(words: &[u64], used: usize, block: u32) -> Search
+// 1 where an entry's word has the block, 0 elsewhere.
+fn same_block(w: u64, block: u32) -> u32
+    ensures { λ r. ⌜ (r ≡ 0 → w / 0x100000000 ≡ block → ⊥) ⌝ }
+{
+    if (w / 0x100000000) as u32 == block {
+        return 1;
+    }
+    0
+}
+
+// Whether one of the eight places has the block: if not, no entry has it. All places are compared, so that a compiler can take several at a time.
+fn may_hold(words: &[u64], block: u32) -> bool
+    requires { ⌜ length (now words) ≡ 8 ⌝ }
+    ensures { λ r. ⌜ (r ≡ false → (i : ℕ) → i < 8 → getD (now (words .entry)) i 0 / 0x100000000 ≡ block → ⊥) ⌝ }
+{
+    let mut found: u32 = 0;
+    let mut i: usize = 0;
+    while i < 8 {
+        found = found | same_block(words[i], block);
+        i += 1;
+    }
+    found != 0
+}
+
+// The newest of the first `used` entries that has the block, searched from the newest down.
+fn search_down(words: &[u64], used: usize, block: u32) -> Search
     requires { ⌜ (length (now words) ≡ 8) × (used ≤ 8) ⌝ }
     ensures { λ r. ⌜ ((bytes : List (List ℕ)) → length bytes ≡ 8 → r ≡ spec.newestOf (slotsOf (now (words .entry)) bytes) block used) ⌝ }
 {
@@ -28,6 +52,23 @@ fn newest(words: &[u64], used: usize, block: u32) -> Search
         n -= 1;
     };
     found
+}
+
+// The newest of the first `used` entries that has the block: the last, none if no place has it, or one that is searched for.
+fn newest(words: &[u64], used: usize, block: u32) -> Search
+    requires { ⌜ (length (now words) ≡ 8) × (used ≤ 8) ⌝ }
+    ensures { λ r. ⌜ ((bytes : List (List ℕ)) → length bytes ≡ 8 → r ≡ spec.newestOf (slotsOf (now (words .entry)) bytes) block used) ⌝ }
+{
+    if used == 0 {
+        return Search::Nothing;
+    }
+    if words[used - 1] / 0x100000000 == block as u64 {
+        return Search::At(used - 1);
+    }
+    if !may_hold(words, block) {
+        return Search::Nothing;
+    }
+    search_down(words, used, block)
 }
 
 // An entry's bytes with those of a store in them.

@@ -74,7 +74,7 @@ keepsBut R4 left = keepsBy r2 positions.r3 left positions.r5 r6
 keepsBut R5 left = keepsBy r2 positions.r3 positions.r4 left r6
 keepsBut R6 left = keepsBy r2 positions.r3 positions.r4 positions.r5 left
 
--- R2 with its second half for translated accesses alone; for accesses inside memory alone
+-- R2 with its second half for translated accesses alone; for accesses whose word does not abort alone
 abbrev pub r2-translated : Test
 r2-translated memory bad list j = positions.r2-physical memory bad list j && given (translates memory bad list j) (positions.r2-virtual memory bad list j)
 
@@ -103,7 +103,7 @@ r3By since memory bad list = positions.r3By memory bad list (since memory bad li
 abbrev pub r4By : Since → Test
 r4By since memory bad list = positions.r4By memory bad list (since memory bad list)
 
--- "all are equal", of those of the sixteen words that lie in memory
+-- "all are equal", of those of the sixteen words that do not abort
 abbrev pub equalInMemory : Test
 equalInMemory memory bad list =
     positions.ofGroup memory bad list

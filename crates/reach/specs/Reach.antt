@@ -24,7 +24,8 @@ committed m t =
     withCounts (withEntries (withCp15 m (withPointerOf (m .cp15) (pointerAfter pointer t))) (entriesAfter (m .entries) pointer t))
     (countsAfter (m .counts) t)
 
--- "A fault sets FSR, and FAR to the address given. Of the rest only the TLB and counts may change."
+-- "A fault sets FSR, and FAR to the address given. Of the rest only the TLB and counts may change.": a fill's abort gets a machine whose line has given
+-- way, document 02, Five
 unfoldable pub faulted : Machine → Status → ℕ → VirtualAddress → Stepped
 faulted m s d address =
     let f : Fault = record { status = s; domain = d; address = address } in

@@ -84,38 +84,67 @@ module _ (l : Lists) (es : List ℕ) (s : Scalars) (n : ℕ) (k : Serves (machin
       }))
       (λ v. subst InRange (sym (x .entry-empty i v)) empty-ranged))
 
+  line-inside : (i : ℕ) → lineOf (getD (l .lines) i 0) .valid ≡ true → lineOf (getD (l .lines) i 0) .frame * 32 + 32 ≤ length (l .memory)
+  line-inside i v =
+      let w : getD (linesOf (l .lines)) i emptyLine .valid ≡ true = ap (λ (y : Line). y .valid) (line-at (l .lines) i) ∙ v in
+      subst (λ (y : Line). y .frame * 32 + 32 ≤ length (l .memory)) (line-at (l .lines) i) (is .line-inside i w)
+
+  -- a dirty line is valid: an empty place is all zeros
+  line-dirty : (i : ℕ) → (lineOf (getD (l .lines) i 0) .low || lineOf (getD (l .lines) i 0) .high) ≡ true → lineOf (getD (l .lines) i 0) .valid ≡ true
+  line-dirty i d =
+      subst (λ (y : Line). (y .low || y .high) ≡ true → y .valid ≡ true) (line-at (l .lines) i)
+      (λ t.
+      case (getD (linesOf (l .lines)) i emptyLine .valid)
+      (λ v. v)
+      (λ v. clash t (ap (λ (y : Line). y .low || y .high) (is .line-empty i v)))) d
+
+  halves-room : s .counts .calls < countLimit → (i : ℕ) → s .counts .halves + dirtyHalves (lineOf (getD (l .lines) i 0)) ≤ countLimit
+  halves-room low i =
+      let h = is .halves in
+      let g = some-halves (linesOf (l .lines)) i in
+      let e = ap dirtyHalves (line-at (l .lines) i) in
+      omega arith
+
+  pub fits-all : length (l .words) ≡ 8 → length (l .bytes) ≡ 8 → Fits (l .memory) (l .words) (l .bytes) (s .used)
+  fits-all w b =
+      let x = is in
+      record {
+        words-long = w;
+        bytes-long = b;
+        used-low = x .used;
+        inside = λ i h.
+            let g : i < 8 = let u = x .used in omega arith in
+            let f = x .slot-inside i h (let e = k .formed .slots-long in omega arith) in
+            subst (λ (y : Slot). y .block * 16 + 16 ≤ length (l .memory)) (slot-at (l .words) (l .bytes) i (w ∙ sym b)) f;
+      }
+
+  -- what a clean asks of the data side
+  pub clean-ready : s .counts .calls < countLimit → Fits (l .memory) (l .words) (l .bytes) (s .used)
+      → CleanReady (l .memory) (l .words) (l .bytes) (l .lines) (l .store) s
+  clean-ready low f =
+      record {
+        fits = f;
+        lines-long = sym (length-map (l .lines) lineOf) ∙ k .formed .lines-long;
+        store-long = k .formed .store-long;
+        short = k .formed .memory-short;
+        lines-inside = λ i h. line-inside i;
+        halves = λ i h. halves-room low i;
+      }
+
+  pub entries-all : length es ≡ 32
+  entries-all = sym (length-map es entryOf) ∙ k .formed .entries-long
+
   module _ (low : s .counts .calls < countLimit) where
     pub tlb-ready : TlbReady es (countedBy s)
     tlb-ready =
         let x = is in
         record {
-          entries-long = sym (length-map es entryOf) ∙ k .formed .entries-long;
+          entries-long = entries-all;
           entries-ranged = λ i h. entry-ranged i;
           pointer = let h = x .pointer in omega arith;
           base = let h = x .base in omega arith;
           misses = let h = x .misses in omega arith;
         }
-
-    line-inside : (i : ℕ) → lineOf (getD (l .lines) i 0) .valid ≡ true → lineOf (getD (l .lines) i 0) .frame * 32 + 32 ≤ length (l .memory)
-    line-inside i v =
-        let w : getD (linesOf (l .lines)) i emptyLine .valid ≡ true = ap (λ (y : Line). y .valid) (line-at (l .lines) i) ∙ v in
-        subst (λ (y : Line). y .frame * 32 + 32 ≤ length (l .memory)) (line-at (l .lines) i) (is .line-inside i w)
-
-    -- a dirty line is valid: an empty place is all zeros
-    line-dirty : (i : ℕ) → (lineOf (getD (l .lines) i 0) .low || lineOf (getD (l .lines) i 0) .high) ≡ true → lineOf (getD (l .lines) i 0) .valid ≡ true
-    line-dirty i d =
-        subst (λ (y : Line). (y .low || y .high) ≡ true → y .valid ≡ true) (line-at (l .lines) i)
-        (λ t.
-        case (getD (linesOf (l .lines)) i emptyLine .valid)
-        (λ v. v)
-        (λ v. clash t (ap (λ (y : Line). y .low || y .high) (is .line-empty i v)))) d
-
-    halves-room : (i : ℕ) → s .counts .halves + dirtyHalves (lineOf (getD (l .lines) i 0)) ≤ countLimit
-    halves-room i =
-        let h = is .halves in
-        let g = some-halves (linesOf (l .lines)) i in
-        let e = ap dirtyHalves (line-at (l .lines) i) in
-        omega arith
 
     pub side-ready : Fits (l .memory) (l .words) (l .bytes) (s .used) → SideReady l (countedBy s)
     side-ready f =
@@ -132,25 +161,12 @@ module _ (l : Lists) (es : List ℕ) (s : Scalars) (n : ℕ) (k : Serves (machin
           lines-dirty = λ i h. line-dirty i;
           hits = let g = x .hits in omega arith;
           fills = let g = x .fills in omega arith;
-          halves = λ i h. halves-room i;
+          halves = λ i h. halves-room low i;
         }
 
   pub control-low : s .cp15 .registers .control < 0x2000
   unfolding kept
   control-low = let h = is .control in omega arith
-
-  pub fits-all : length (l .words) ≡ 8 → length (l .bytes) ≡ 8 → Fits (l .memory) (l .words) (l .bytes) (s .used)
-  fits-all w b =
-      let x = is in
-      record {
-        words-long = w;
-        bytes-long = b;
-        used-low = x .used;
-        inside = λ i h.
-            let g : i < 8 = let u = x .used in omega arith in
-            let f = x .slot-inside i h (let e = k .formed .slots-long in omega arith) in
-            subst (λ (y : Slot). y .block * 16 + 16 ≤ length (l .memory)) (slot-at (l .words) (l .bytes) i (w ∙ sym b)) f;
-      }
 
   -- ---- refusals 5 to 12
 
@@ -188,14 +204,15 @@ module _ (l : Lists) (es : List ℕ) (s : Scalars) (n : ℕ) (k : Serves (machin
       unfolding served
       not-refused f = let g : refusal here c ≡ 0 = by-call ∙ f in rw g
 
--- what a clean asks of the data side is part of what an access asks
-pub clean-ready : (s : Scalars) (l : Lists) → SideReady l s → CleanReady (l .memory) (l .words) (l .bytes) (l .lines) (l .store) s
-clean-ready s l k =
+-- another call leaves what a clean asks as it is
+pub clean-counted : (memory words : List ℕ) (bytes : List (List ℕ)) (lines store : List ℕ) (s : Scalars)
+    → CleanReady memory words bytes lines store s → CleanReady memory words bytes lines store (countedBy s)
+clean-counted memory words bytes lines store s r =
     record {
-      fits = k .fits;
-      lines-long = k .lines-long;
-      store-long = k .store-long;
-      short = k .short;
-      lines-inside = k .lines-inside;
-      halves = k .halves;
+      fits = r .fits;
+      lines-long = r .lines-long;
+      store-long = r .store-long;
+      short = r .short;
+      lines-inside = r .lines-inside;
+      halves = r .halves;
     }

@@ -1,22 +1,39 @@
 // One call, and a list of calls, on lent lists that refusals 1 to 4 and 16 do not hold of.
 ghost use mathlib.Core.Path.{_≡_};
-ghost use Prim.Native.Nat.{ℕ, _<_};
+ghost use mathlib.Core.List.{List};
+ghost use Prim.Native.Nat.{ℕ, _+_, _*_, _<_, _≤_};
 ghost use lib.ListN.{length};
-ghost use Rattle.rights.specs.Rights.{rightsTable};
-ghost use Rattle.refusals.specs.Refusals as refused;
-ghost use Rattle.machine.specs.Lists.{lists, machineOf, steppedOf};
-ghost use Rattle.machine.specs.Ready.{TlbReady, SideReady};
+ghost use Rattle.machine.specs.Lists.{Lists, lists, machineOf, steppedOf};
+ghost use Rattle.machine.specs.Ready.{CleanReady};
+ghost use Rattle.machine.specs.Scalars.{outcomeFrom};
+ghost use Rattle.values.specs.Counts.{countLimit};
 ghost use Rattle.step.specs.Call as spec;
 ghost use Rattle.step.specs.Run as runs;
-ghost use Rattle.step.specs.Code.{Serves};
+ghost use Rattle.step.specs.Code.{Serves, Ready, Steps};
+ghost use Rattle.trace.specs.Calls.{callAt};
 ghost use Rattle.trace.specs.Fold.{callsIn, Holds, leaves};
 use machine::Outcome;
 use machine::Scalars;
+use values::Access;
 use values::Answer;
 use values::Call;
+use values::Transfer;
 
-// A call that is not refused.
-fn done(
+// Refusal 5: the calls are at their limit.
+const NO_MORE_CALLS: u32 = 5;
+
+// A refused call changes nothing.
+fn refused(s: Scalars, n: u32) -> Outcome
+    ensures { λ r. ⌜ r ≡ outcomeFrom s (Answer.Refused n) ⌝ }
+{
+    Outcome {
+        scalars: s,
+        answer: Answer::Refused(n),
+    }
+}
+
+// An access.
+fn access_step(
     table: &[u8; 256],
     memory: &mut [u8],
     bad: &[u8],
@@ -27,51 +44,103 @@ fn done(
     store: &mut [u8],
     entries: &mut [u64],
     s: Scalars,
-    c: Call,
+    a: Access,
 ) -> Outcome
-    requires { ⌜ (now table ≡ rightsTable) × TlbReady (now entries) s
-        × SideReady (lists (now memory) (now bad) (now words) (now bytes) (now lines) (now pointers) (now store)) s
-        × (s .cp15 .registers .control < 0x2000) × (refused.callRefusal c ≡ 0) ⌝ }
+    requires { ⌜ Ready (now table) (lists (now memory) (now bad) (now words) (now bytes) (now lines) (now pointers) (now store)) (now entries) s ⌝ }
     ensures { λ r.
-        ⌜ ((size : ℕ)
-        → steppedOf (lists (now (memory .exit)) (now (bad .entry)) (now (words .exit)) (now (bytes .exit)) (now (lines .exit)) (now (pointers .exit))
-        (now (store .exit)))
-        (now (entries .exit)) size r
-        ≡ spec.done
-        (machineOf
-        (lists (now (memory .entry)) (now (bad .entry)) (now (words .entry)) (now (bytes .entry)) (now (lines .entry)) (now (pointers .entry))
-        (now (store .entry)))
-        (now (entries .entry)) s size) c)
-        × (length (now (bytes .exit)) ≡ 8) ⌝ }
+        ⌜ Steps (lists (now (memory .entry)) (now (bad .entry)) (now (words .entry)) (now (bytes .entry)) (now (lines .entry)) (now (pointers .entry))
+        (now (store .entry))) (now (entries .entry)) s (Call.Access a)
+        (lists (now (memory .exit)) (now (bad .entry)) (now (words .exit)) (now (bytes .exit)) (now (lines .exit)) (now (pointers .exit))
+        (now (store .exit))) (now (entries .exit)) r ⌝ }
 {
-    match c {
-        Call::Access(a) => access::serve(
-            table,
-            memory,
-            bad,
-            words,
-            bytes,
-            lines,
-            pointers,
-            store,
-            entries,
-            s,
-            a,
-        ),
-        Call::Read(t) => cp15::read(s, t),
-        Call::Write(t, v) => cp15::write(memory, bad, words, bytes, lines, store, entries, s, t, v),
+    if s.counts.calls == values::COUNT_LIMIT {
+        return refused(s, NO_MORE_CALLS);
     }
+    let n = refusals::access_refusal(a);
+    if n != 0 {
+        return refused(s, n);
+    }
+    access::serve(
+        table,
+        memory,
+        bad,
+        words,
+        bytes,
+        lines,
+        pointers,
+        store,
+        entries,
+        machine::counted(s),
+        a,
+    )
 }
 
-// Refusals 6 to 12, or 0. Those of an access are tested here, by code that a compiler puts in place.
-fn refusal(c: Call) -> u32
-    ensures { λ r. ⌜ r ≡ refused.callRefusal c ⌝ }
+// A CP15 read.
+fn read_step(s: Scalars, t: Transfer) -> Outcome
+    requires { ⌜ s .cp15 .registers .control < 0x2000 ⌝ }
+    ensures { λ r.
+        ⌜ ((l : Lists) (entries : List ℕ) (size : ℕ) → Serves (machineOf l entries s size)
+        → steppedOf l entries size r ≡ spec.served (machineOf l entries s size) (Call.Read t)) ⌝ }
 {
-    match c {
-        Call::Access(a) => refusals::access_refusal(a),
-        Call::Read(t) => refusals::call_refusal(c),
-        Call::Write(t, v) => refusals::call_refusal(c),
+    if s.counts.calls == values::COUNT_LIMIT {
+        return refused(s, NO_MORE_CALLS);
     }
+    let n = refusals::call_refusal(Call::Read(t));
+    if n != 0 {
+        return refused(s, n);
+    }
+    cp15::read(machine::counted(s), t)
+}
+
+// A CP15 write.
+fn write_step(
+    memory: &mut [u8],
+    bad: &[u8],
+    words: &mut [u64],
+    bytes: &mut [[u8; 16]; 8],
+    lines: &mut [u64],
+    store: &[u8],
+    entries: &mut [u64],
+    s: Scalars,
+    t: Transfer,
+    v: u32,
+) -> Outcome
+    requires { ⌜ (length (now entries) ≡ 32) × (length (now bytes) ≡ 8)
+        × (s .counts .calls < countLimit → CleanReady (now memory) (now words) (now bytes) (now lines) (now store) s) ⌝ }
+    ensures { λ r.
+        ⌜ ((pointers : List ℕ) (size : ℕ)
+        → Serves (machineOf
+        (lists (now (memory .entry)) (now (bad .entry)) (now (words .entry)) (now (bytes .entry)) (now (lines .entry)) pointers (now (store .entry)))
+        (now (entries .entry)) s size)
+        → steppedOf
+        (lists (now (memory .exit)) (now (bad .entry)) (now (words .exit)) (now (bytes .exit)) (now (lines .exit)) pointers (now (store .entry)))
+        (now (entries .exit)) size r
+        ≡ spec.served
+        (machineOf
+        (lists (now (memory .entry)) (now (bad .entry)) (now (words .entry)) (now (bytes .entry)) (now (lines .entry)) pointers (now (store .entry)))
+        (now (entries .entry)) s size)
+        (Call.Write t v))
+        × (length (now (bytes .exit)) ≡ 8) ⌝ }
+{
+    if s.counts.calls == values::COUNT_LIMIT {
+        return refused(s, NO_MORE_CALLS);
+    }
+    let n = refusals::call_refusal(Call::Write(t, v));
+    if n != 0 {
+        return refused(s, n);
+    }
+    cp15::write(
+        memory,
+        bad,
+        words,
+        bytes,
+        lines,
+        store,
+        entries,
+        machine::counted(s),
+        t,
+        v,
+    )
 }
 
 // A call on a machine that refusals 1 to 4 and 16 do not hold of.
@@ -88,34 +157,74 @@ pub fn step(
     s: Scalars,
     c: Call,
 ) -> Outcome
-    requires { ⌜ (now table ≡ rightsTable) × (length (now words) ≡ 8) × (length (now bytes) ≡ 8)
-        × Serves (machineOf (lists (now memory) (now bad) (now words) (now bytes) (now lines) (now pointers) (now store)) (now entries) s
-        (length (now memory))) ⌝ }
+    requires { ⌜ Ready (now table) (lists (now memory) (now bad) (now words) (now bytes) (now lines) (now pointers) (now store)) (now entries) s ⌝ }
     ensures { λ r.
-        ⌜ (steppedOf (lists (now (memory .exit)) (now (bad .entry)) (now (words .exit)) (now (bytes .exit)) (now (lines .exit)) (now (pointers .exit))
-        (now (store .exit)))
-        (now (entries .exit)) (length (now (memory .entry))) r
-        ≡ spec.served
-        (machineOf
-        (lists (now (memory .entry)) (now (bad .entry)) (now (words .entry)) (now (bytes .entry)) (now (lines .entry)) (now (pointers .entry))
-        (now (store .entry)))
-        (now (entries .entry)) s (length (now (memory .entry)))) c)
-        × (length (now (bytes .exit)) ≡ 8) ⌝ }
+        ⌜ Steps (lists (now (memory .entry)) (now (bad .entry)) (now (words .entry)) (now (bytes .entry)) (now (lines .entry)) (now (pointers .entry))
+        (now (store .entry))) (now (entries .entry)) s c
+        (lists (now (memory .exit)) (now (bad .entry)) (now (words .exit)) (now (bytes .exit)) (now (lines .exit)) (now (pointers .exit))
+        (now (store .exit))) (now (entries .exit)) r ⌝ }
 {
-    if s.counts.calls == values::COUNT_LIMIT {
-        return Outcome {
-            scalars: s,
-            answer: Answer::Refused(5),
-        };
+    match c {
+        Call::Access(a) => access_step(
+            table,
+            memory,
+            bad,
+            words,
+            bytes,
+            lines,
+            pointers,
+            store,
+            entries,
+            s,
+            a,
+        ),
+        Call::Read(t) => read_step(s, t),
+        Call::Write(t, v) => write_step(memory, bad, words, bytes, lines, store, entries, s, t, v),
     }
-    let n = refusal(c);
-    if n != 0 {
-        return Outcome {
-            scalars: s,
-            answer: Answer::Refused(n),
-        };
+}
+
+// Call i of a list: its numbers become the access or the transfer, with no call between them that a compiler would keep in memory.
+fn step_at(
+    table: &[u8; 256],
+    memory: &mut [u8],
+    bad: &[u8],
+    words: &mut [u64],
+    bytes: &mut [[u8; 16]; 8],
+    lines: &mut [u64],
+    pointers: &mut [u32],
+    store: &mut [u8],
+    entries: &mut [u64],
+    s: Scalars,
+    calls: &[u32],
+    i: usize,
+) -> Outcome
+    requires { ⌜ Ready (now table) (lists (now memory) (now bad) (now words) (now bytes) (now lines) (now pointers) (now store)) (now entries) s
+        × (i * 5 + 5 ≤ length (now calls)) ⌝ }
+    ensures { λ r.
+        ⌜ Steps (lists (now (memory .entry)) (now (bad .entry)) (now (words .entry)) (now (bytes .entry)) (now (lines .entry)) (now (pointers .entry))
+        (now (store .entry))) (now (entries .entry)) s (callAt (now (calls .entry)) i)
+        (lists (now (memory .exit)) (now (bad .entry)) (now (words .exit)) (now (bytes .exit)) (now (lines .exit)) (now (pointers .exit))
+        (now (store .exit))) (now (entries .exit)) r ⌝ }
+{
+    let kind = calls[i * 5];
+    if kind == 3 {
+        return read_step(s, trace::transfer_at(calls, i));
     }
-    done(
+    if kind == 4 {
+        return write_step(
+            memory,
+            bad,
+            words,
+            bytes,
+            lines,
+            store,
+            entries,
+            s,
+            trace::transfer_at(calls, i),
+            calls[i * 5 + 4],
+        );
+    }
+    access_step(
         table,
         memory,
         bad,
@@ -125,8 +234,8 @@ pub fn step(
         pointers,
         store,
         entries,
-        machine::counted(s),
-        c,
+        s,
+        trace::access_at(calls, i),
     )
 }
 
@@ -152,9 +261,8 @@ pub fn run_calls(
     answers: &mut [u64],
     n: usize,
 ) -> Folded
-    requires { ⌜ (now table ≡ rightsTable) × (length (now words) ≡ 8) × (length (now bytes) ≡ 8) × Holds (now calls) (now answers) n
-        × Serves (machineOf (lists (now memory) (now bad) (now words) (now bytes) (now lines) (now pointers) (now store))
-        (now entries) first (length (now memory))) ⌝ }
+    requires { ⌜ Ready (now table) (lists (now memory) (now bad) (now words) (now bytes) (now lines) (now pointers) (now store)) (now entries) first
+        × Holds (now calls) (now answers) n ⌝ }
     ensures { λ r.
         ⌜ leaves
         (machineOf (lists (now (memory .exit)) (now (bad .entry)) (now (words .exit)) (now (bytes .exit)) (now (lines .exit)) (now (pointers .exit))
@@ -177,8 +285,7 @@ pub fn run_calls(
                 made: i,
             };
         }
-        let c = trace::call_at(calls, i);
-        let o = step(
+        let o = step_at(
             table,
             memory,
             bad,
@@ -189,7 +296,8 @@ pub fn run_calls(
             store,
             entries,
             s,
-            c,
+            calls,
+            i,
         );
         let a = o.answer;
         answers[i] = trace::code(a);

@@ -1,5 +1,5 @@
 -- R2 to R6 and the end of document 01, over positions in the list of calls: call 0 is the first after the start. Every test is computed from
--- the start's memory and the list. (R1 is the threading of the machine from call to call, in a run.)
+-- the start's memory, the map and the list. (R1 is the threading of the machine from call to call, in a run.)
 use Prim.Native.Nat.{ℕ, zero, suc, _+_, _*_, _/_}
 use mathlib.Core.Bool.{Bool, true, false, cond, not, _&&_, _||_}
 use mathlib.Core.List.{List}
@@ -207,7 +207,7 @@ module _ (memory bad : List ℕ) (list : List Call) where
       (each 16 (λ k. test p (two / 64 * 64 + 4 * k) two)))
       (call j))
 
-  -- "lies in memory"
+  -- "lies in memory"; document 02, Five: "R6's sixteen words are good ones"
   abbrev pub r6-inside : ℕ → Bool
   r6-inside = ofGroup (λ p a two. not (aborts (plainPhysical p) (record { 0 = a })))
 

@@ -129,7 +129,7 @@ module _ (m : Machine) (a : Access) where
   abbrev onFill : Bool
   onFill = misses && (not store && (fills regs place && wantedAborts memory (place .address)))
 
-  -- "walks, uncached loads, swaps that miss and unbuffered stores abort as outside memory"
+  -- "uncached loads, swaps that miss and unbuffered stores abort as outside memory"; walks do so by `descriptorAt`
   abbrev other : Bool
   other = misses && (aborts memory (place .address) && (swap || cond store (not (buffers regs place)) (not (fills regs place))))
 

@@ -1,7 +1,7 @@
 // Calls and answers as numbers, for runs over lent lists.
 ghost use mathlib.Core.Path.{_≡_};
-ghost use Prim.Native.Nat.{_+_, _*_, _/_, _≤_, min};
-ghost use lib.ListN.{length};
+ghost use Prim.Native.Nat.{ℕ, _+_, _*_, _/_, _≤_, min};
+ghost use lib.ListN.{length, getD};
 ghost use Rattle.trace.specs.Calls as spec;
 ghost use Rattle.trace.specs.Codes as codes;
 use values::Access;
@@ -39,26 +39,35 @@ fn transfer_of(privileged: u32, register: u32, pair: u32) -> Transfer
     }
 }
 
+// What an access of this number does, with the value of its fifth number: 0 load, 1 signed load, 2 store, and swap.
+fn kind_of(kind: u32, v: u32) -> Kind
+    ensures { λ r.
+        ⌜ ((kind ≡ 3 → ⊥) → (kind ≡ 4 → ⊥) → (privileged n a : ℕ)
+        → spec.callOf kind privileged n a v ≡ Call.Access (spec.accessOf r privileged n a)) ⌝ }
+{
+    if kind == 0 {
+        return Kind::Load;
+    }
+    if kind == 1 {
+        return Kind::SignedLoad;
+    }
+    if kind == 2 {
+        return Kind::Store(v);
+    }
+    Kind::Swap(v)
+}
+
 // The call of five numbers.
 pub fn call_of(kind: u32, privileged: u32, n: u32, a: u32, v: u32) -> Call
     ensures { λ r. ⌜ r ≡ spec.callOf kind privileged n a v ⌝ }
 {
-    if kind == 0 {
-        return Call::Access(access_of(Kind::Load, privileged, n, a));
-    }
-    if kind == 1 {
-        return Call::Access(access_of(Kind::SignedLoad, privileged, n, a));
-    }
-    if kind == 2 {
-        return Call::Access(access_of(Kind::Store(v), privileged, n, a));
-    }
     if kind == 3 {
         return Call::Read(transfer_of(privileged, n, a));
     }
     if kind == 4 {
         return Call::Write(transfer_of(privileged, n, a), v);
     }
-    Call::Access(access_of(Kind::Swap(v), privileged, n, a))
+    Call::Access(access_of(kind_of(kind, v), privileged, n, a))
 }
 
 // Call i of a list of five numbers a call.
@@ -74,6 +83,29 @@ pub fn call_at(list: &[u32], i: usize) -> Call
         list[at + 3],
         list[at + 4],
     )
+}
+
+// The access that call i is, where its number is neither 3 nor 4.
+pub fn access_at(list: &[u32], i: usize) -> Access
+    requires { ⌜ i * 5 + 5 ≤ length (now list) ⌝ }
+    ensures { λ r.
+        ⌜ ((getD (now (list .entry)) (i * 5) 0 ≡ 3 → ⊥) → (getD (now (list .entry)) (i * 5) 0 ≡ 4 → ⊥)
+        → spec.callAt (now (list .entry)) i ≡ Call.Access r) ⌝ }
+{
+    let at = i * 5;
+    let kind = kind_of(list[at], list[at + 4]);
+    access_of(kind, list[at + 1], list[at + 2], list[at + 3])
+}
+
+// The transfer of call i, a CP15 read or write.
+pub fn transfer_at(list: &[u32], i: usize) -> Transfer
+    requires { ⌜ i * 5 + 5 ≤ length (now list) ⌝ }
+    ensures { λ r.
+        ⌜ r
+        ≡ spec.transferOf (getD (now (list .entry)) (i * 5 + 1) 0) (getD (now (list .entry)) (i * 5 + 2) 0) (getD (now (list .entry)) (i * 5 + 3) 0) ⌝ }
+{
+    let at = i * 5;
+    transfer_of(list[at + 1], list[at + 2], list[at + 3])
 }
 
 // Whether the five numbers of entry i are a call.

@@ -60,7 +60,7 @@ run-calls-requires c κs =
     let h = serves-of (now (a .memory)) (now (a .bad)) (now (a .store)) s (a .cp15) bs (after-unpacked .unpacked .ensures) (start .pre .0) e ls ps ws
     (z .1 .0 .1)
     (rows-of bs (z .0) (z .1 .1)) (λ i h. omega (arith, known-memory .slice-known .given i)) (λ i h. omega (arith, known-store .slice-known2 .given i)) in
-    (after-table .table .ensures, ws, z .1 .0 .1, start .pre .1, rw (after-scalars-of .scalars-of .ensures) h)
+    ((after-table .table .ensures, ws, z .1 .0 .1, rw (after-scalars-of .scalars-of .ensures) h), start .pre .1)
 
 packed-requires : tie.Need-packed-requires
 packed-requires c κs = search needs

@@ -1,60 +1,41 @@
-use Rattle.step.proofs.Ready.{refused-five, refused-by, not-refused, tlb-ready, side-ready, fits-all, control-low}
-use Rattle.machine.specs.declared.Scalars.{Scalars}
-use Rattle.machine.specs.Ready.{TlbReady, SideReady}
+use Rattle.step.proofs.Ready.{clean-ready, entries-all, fits-all, control-low}
 use Rattle.machine.specs.Lists.{lists}
-use Rattle.values.specs.Counts.{countLimit}
 use lib.ListN.{length}
-use Prim.Native.Nat.{_<_}
-use native.Mathlib.Omega.{arith}
-use mathlib.Core.Path.{sym, _∙_, subst}
 use denote.Ref.{now}
 use borrow.Author.Needs.{needs}
 use Rattle.step.proofs.step.Statement.{statement}
 use Rattle.step.proofs.step.Tie as tie
 
-returns : tie.Need-returns
-returns c =
-    let start = c .before .before .before .before .before .before .before .before .before in
-    let a = start .args in (
-      sym (refused-five (lists (now (a .memory)) (now (a .bad)) (now (a .words)) (now (a .bytes)) (now (a .lines)) (now (a .pointers))
-          (now (a .store))) (now (a .entries)) (a .s) (length (now (a .memory))) (start .pre .3) (a .c) (c .if1 .taken)),
-      start .pre .2,
-    )
+enum-known-c : tie.Need-enum-known-c
+enum-known-c c = search needs
 
-refusal-requires : tie.Need-refusal-requires
-refusal-requires c κs = search needs
+access-step-requires : tie.Need-access-step-requires
+access-step-requires c κs = search needs
 
-returns-2 : tie.Need-returns-2
-returns-2 c =
-    let after-refusal = c .before in let else1 = after-refusal .before in
-    let start = else1 .before .before .before .before .before .before .before .before .before in
-    let a = start .args in (
-      sym (refused-by (lists (now (a .memory)) (now (a .bad)) (now (a .words)) (now (a .bytes)) (now (a .lines)) (now (a .pointers))
-          (now (a .store))) (now (a .entries)) (a .s) (length (now (a .memory))) (start .pre .3) (a .c) (else1 .if1 .left) _
-          (after-refusal .refusal .ensures) (c .if2 .taken)),
-      start .pre .2,
-    )
+enum-known-c-2 : tie.Need-enum-known-c-2
+enum-known-c-2 c = search needs
 
-counted-requires : tie.Need-counted-requires
-counted-requires c κs = search needs
+read-step-requires : tie.Need-read-step-requires
+read-step-requires c κs =
+    let start = c .before .before .before .before .before .before .before .before .before .before in
+    let a = start .args in
+    control-low (lists (now (a .memory)) (now (a .bad)) (now (a .words)) (now (a .bytes)) (now (a .lines)) (now (a .pointers)) (now (a .store)))
+    (now (a .entries)) (a .s) (length (now (a .memory))) (start .pre .3)
 
-done-requires : tie.Need-done-requires
-done-requires c κs =
-    let else2 = c .before .before .before .before .before .before .before .before in let after-refusal = else2 .before in
-    let else1 = after-refusal .before in let known-scalars = else1 .before in
-    let start = known-scalars .before .before .before .before .before .before .before .before in
+enum-known-c-3 : tie.Need-enum-known-c-3
+enum-known-c-3 c = search needs
+
+write-step-requires : tie.Need-write-step-requires
+write-step-requires c κs =
+    let start = c .before .before .before .before .before .before .before .before .before .before .before .before .before .before .before .before in
     let a = start .args in
     let l = (lists (now (a .memory)) (now (a .bad)) (now (a .words)) (now (a .bytes)) (now (a .lines)) (now (a .pointers)) (now (a .store))) in
     let es = now (a .entries) in
     let n = length (now (a .memory)) in
-    let low : a .s .counts .calls < countLimit = omega (arith, else1 .if1 .left, known-scalars .struct-known .given) in
-    let e = sym (c .counted .ensures) in (
-      start .pre .0,
-      subst (λ (s : Scalars). TlbReady es s) e (tlb-ready l es (a .s) n (start .pre .3) low),
-      subst (λ (s : Scalars). SideReady l s) e (side-ready l es (a .s) n (start .pre .3) low
-          (fits-all l es (a .s) n (start .pre .3) (start .pre .1) (start .pre .2))),
-      subst (λ (s : Scalars). s .cp15 .registers .control < 0x2000) e (control-low l es (a .s) n (start .pre .3)),
-      sym (after-refusal .refusal .ensures) ∙ else2 .if2 .left,
+    let k = start .pre .3 in (
+      entries-all l es (a .s) n k,
+      start .pre .2,
+      λ low. clean-ready l es (a .s) n k low (fits-all l es (a .s) n k (start .pre .1) (start .pre .2)),
     )
 
 same-length : tie.Need-same-length
@@ -75,33 +56,69 @@ same-length-5 c = search needs
 same-length-6 : tie.Need-same-length-6
 same-length-6 c = search needs
 
+returns : tie.Need-returns
+returns c =
+    let after-access = c .before .before .before .before .before .before .before .before .before .before .before .before in
+    let arm-c = after-access .before .before .before .before .before .before .before .before .before in
+    (rw (arm-c .c .given .1) (after-access .access-step .ensures .0), after-access .access-step .ensures .1)
+
+returns-2 : tie.Need-returns-2
+returns-2 c =
+    let arm-c2 = c .before .before in
+    let start = arm-c2 .before .before .before .before .before .before .before .before .before in
+    let a = start .args in (
+      rw (arm-c2 .c2 .given .1) (c .read-step .ensures
+          (lists (now (a .memory)) (now (a .bad)) (now (a .words)) (now (a .bytes)) (now (a .lines)) (now (a .pointers)) (now (a .store)))
+          (now (a .entries)) (length (now (a .memory))) (start .pre .3)),
+      start .pre .2,
+    )
+
+same-length-7 : tie.Need-same-length-7
+same-length-7 c = search needs
+
+same-length-8 : tie.Need-same-length-8
+same-length-8 c = search needs
+
+same-length-9 : tie.Need-same-length-9
+same-length-9 c = search needs
+
+same-length-10 : tie.Need-same-length-10
+same-length-10 c = search needs
+
+same-length-11 : tie.Need-same-length-11
+same-length-11 c = search needs
+
 returns-3 : tie.Need-returns-3
 returns-3 c =
-    let after-done = c .before .before .before .before .before .before .before .before .before .before .before .before in
-    let after-counted = after-done .before in let else2 = after-counted .before .before .before .before .before .before .before .before in
-    let after-refusal = else2 .before in let else1 = after-refusal .before in
-    let start = else1 .before .before .before .before .before .before .before .before .before in
-    let a = start .args in
-    let n = length (now (a .memory)) in (
-      rw (after-counted .counted .ensures) at (after-done .done .ensures .0 n)
-          ∙ sym (not-refused (lists (now (a .memory)) (now (a .bad)) (now (a .words)) (now (a .bytes)) (now (a .lines)) (now (a .pointers)) (now (a .store)))
-          (now (a .entries)) (a .s) n (start .pre .3) (a .c) (else1 .if1 .left) (sym (after-refusal .refusal .ensures) ∙ else2 .if2 .left)),
-      after-done .done .ensures .1,
+    let after-write = c .before .before .before .before .before .before .before .before in
+    let arm-c3 = after-write .before .before .before .before .before .before .before .before in
+    let start = arm-c3 .before .before .before .before .before .before .before .before .before in
+    let a = start .args in (
+      rw (arm-c3 .c3 .given .1) (after-write .write-step .ensures .0 (now (a .pointers)) (length (now (a .memory))) (start .pre .3)),
+      after-write .write-step .ensures .1,
     )
 
 pub step-spec : {M : Type 1} → statement M
 step-spec =
     tie.close
     (tie.spec
-    returns
-    refusal-requires
-    returns-2
-    counted-requires
-    done-requires
+    enum-known-c
+    access-step-requires
+    enum-known-c-2
+    read-step-requires
+    enum-known-c-3
+    write-step-requires
     same-length
     same-length-2
     same-length-3
     same-length-4
     same-length-5
     same-length-6
+    returns
+    returns-2
+    same-length-7
+    same-length-8
+    same-length-9
+    same-length-10
+    same-length-11
     returns-3)
