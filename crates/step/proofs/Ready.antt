@@ -32,6 +32,7 @@ use Rattle.step.proofs.StateRefusals.{not-state-refused, lengths-fit, s
 use Rattle.step.specs.Call.{done, served}
 use Rattle.step.specs.Code.{Serves}
 use Rattle.refusals.specs.Refusals.{refusalIn, row5, callRows, callRefusal}
+use Rattle.machine.specs.declared.Outcome.{Outcome}
 use Rattle.machine.specs.declared.Scalars.{Scalars}
 use Rattle.machine.specs.Lists.{Lists, machineOf, steppedOf}
 use Rattle.machine.specs.Ready.{TlbReady, SideReady, CleanReady}
@@ -119,7 +120,7 @@ module _ (l : Lists) (es : List ℕ) (s : Scalars) (n : ℕ) (k : Serves (machin
       }
 
   -- what a clean asks of the data side
-  pub clean-ready : s .counts .calls < countLimit → Fits (l .memory) (l .words) (l .bytes) (s .used)
+  clean-ready : s .counts .calls < countLimit → Fits (l .memory) (l .words) (l .bytes) (s .used)
       → CleanReady (l .memory) (l .words) (l .bytes) (l .lines) (l .store) s
   clean-ready low f =
       record {
@@ -131,8 +132,14 @@ module _ (l : Lists) (es : List ℕ) (s : Scalars) (n : ℕ) (k : Serves (machin
         halves = λ i h. halves-room low i;
       }
 
-  pub entries-all : length es ≡ 32
+  entries-all : length es ≡ 32
   entries-all = sym (length-map es entryOf) ∙ k .formed .entries-long
+
+  -- what a CP15 write asks
+  pub write-ready : length (l .words) ≡ 8 → length (l .bytes) ≡ 8
+      → (length es ≡ 32) × (length (l .bytes) ≡ 8)
+      × (s .counts .calls < countLimit → CleanReady (l .memory) (l .words) (l .bytes) (l .lines) (l .store) s)
+  write-ready w b = (entries-all, b, λ low. clean-ready low (fits-all w b))
 
   module _ (low : s .counts .calls < countLimit) where
     pub tlb-ready : TlbReady es (countedBy s)
@@ -186,19 +193,20 @@ module _ (l : Lists) (es : List ℕ) (s : Scalars) (n : ℕ) (k : Serves (machin
     by-later : refusal here c ≡ refusalIn later
     by-later = refusal-rows here c ∙ rows-unmet (stateMeets here) later (state-numbered here) no-state-refusal
 
-    pub refused-five : s .counts .calls ≡ countLimit → served here c ≡ steppedOf l es n (outcomeFrom s (answer.Refused 5))
+    pub refused-five : (o : Outcome) → o ≡ outcomeFrom s (answer.Refused 5) → s .counts .calls ≡ countLimit → steppedOf l es n o ≡ served here c
     unfolding served
-    refused-five e =
+    refused-five o g e =
         let f : refusal here c ≡ 5 = by-later ∙ row-met (row5 (s .counts .calls)) (callRows c) (eq-eqb (s .counts .calls) countLimit e) in
-        rw f
+        ap (λ (x : Outcome). steppedOf l es n x) g ∙ rw f
 
     module _ (e : s .counts .calls ≡ countLimit → ⊥) where
       by-call : refusal here c ≡ callRefusal c
       by-call = by-later ∙ row-unmet (row5 (s .counts .calls)) (callRows c) (ne-eqb (s .counts .calls) countLimit e)
 
-      pub refused-by : (x : ℕ) → x ≡ callRefusal c → (x ≡ 0 → ⊥) → served here c ≡ steppedOf l es n (outcomeFrom s (answer.Refused x))
+      pub refused-by : (x : ℕ) → x ≡ callRefusal c → (x ≡ 0 → ⊥) → (o : Outcome) → o ≡ outcomeFrom s (answer.Refused x)
+          → steppedOf l es n o ≡ served here c
       unfolding served
-      refused-by x f z = let g : refusal here c ≡ x = by-call ∙ sym f in rw (g, ne-eqb x 0 z)
+      refused-by x f z o e′ = let g : refusal here c ≡ x = by-call ∙ sym f in ap (λ (y : Outcome). steppedOf l es n y) e′ ∙ rw (g, ne-eqb x 0 z)
 
       pub not-refused : callRefusal c ≡ 0 → served here c ≡ done (machineOf l es (countedBy s) n) c
       unfolding served

@@ -1,15 +1,14 @@
 use Rattle.step.proofs.Ready.{refused-five, refused-by, not-refused, tlb-ready, side-ready, fits-all}
 use Rattle.refusals.proofs.Rows.{access-accepted}
-use Rattle.machine.specs.declared.Outcome.{Outcome}
 use Rattle.machine.specs.declared.Scalars.{Scalars}
 use Rattle.machine.specs.Ready.{TlbReady, SideReady}
-use Rattle.machine.specs.Lists.{lists, steppedOf}
+use Rattle.machine.specs.Lists.{lists}
 use Rattle.values.specs.Counts.{countLimit}
 use Rattle.values.specs.declared.Call.the-variants.{Access}
 use lib.ListN.{length}
 use Prim.Native.Nat.{_<_}
 use native.Mathlib.Omega.{arith}
-use mathlib.Core.Path.{sym, _∙_, ap, subst}
+use mathlib.Core.Path.{sym, _∙_, subst}
 use denote.Ref.{now}
 use borrow.Author.Needs.{needs}
 use Rattle.step.proofs.access_step.Statement.{statement}
@@ -24,8 +23,7 @@ returns c =
     let a = start .args in
     let l = (lists (now (a .memory)) (now (a .bad)) (now (a .words)) (now (a .bytes)) (now (a .lines)) (now (a .pointers)) (now (a .store))) in
     let n = length (now (a .memory)) in (
-      ap (λ (o : Outcome). steppedOf l (now (a .entries)) n o) (c .refused .ensures)
-          ∙ sym (refused-five l (now (a .entries)) (a .s) n (start .pre .3) (Access (a .a)) (c .before .if1 .taken)),
+      refused-five l (now (a .entries)) (a .s) n (start .pre .3) (Access (a .a)) _ (c .refused .ensures) (c .before .if1 .taken),
       start .pre .2,
     )
 
@@ -43,9 +41,8 @@ returns-2 c =
     let a = start .args in
     let l = (lists (now (a .memory)) (now (a .bad)) (now (a .words)) (now (a .bytes)) (now (a .lines)) (now (a .pointers)) (now (a .store))) in
     let n = length (now (a .memory)) in (
-      ap (λ (o : Outcome). steppedOf l (now (a .entries)) n o) (c .refused2 .ensures)
-          ∙ sym (refused-by l (now (a .entries)) (a .s) n (start .pre .3) (Access (a .a)) (else1 .if1 .left) _
-          (after-refusal .access-refusal .ensures) (c .before .if2 .taken)),
+      refused-by l (now (a .entries)) (a .s) n (start .pre .3) (Access (a .a)) (else1 .if1 .left) _
+          (after-refusal .access-refusal .ensures) (c .before .if2 .taken) _ (c .refused2 .ensures),
       start .pre .2,
     )
 

@@ -1,10 +1,8 @@
 use Rattle.step.proofs.Ready.{refused-five, refused-by, not-refused}
-use Rattle.machine.specs.declared.Outcome.{Outcome}
 use Rattle.machine.specs.declared.Scalars.{Scalars}
-use Rattle.machine.specs.Lists.{steppedOf}
 use Rattle.values.specs.declared.Call.the-variants.{Read}
 use Prim.Native.Nat.{_<_}
-use mathlib.Core.Path.{sym, _∙_, ap, subst}
+use mathlib.Core.Path.{sym, _∙_, subst}
 use borrow.Author.Needs.{needs}
 use Rattle.step.proofs.read_step.Statement.{statement}
 use Rattle.step.proofs.read_step.Tie as tie
@@ -16,7 +14,7 @@ returns : tie.Need-returns
 returns c =
     let a = c .before .before .before .args in
     λ l es n k.
-    ap (λ (o : Outcome). steppedOf l es n o) (c .refused .ensures) ∙ sym (refused-five l es (a .s) n k (Read (a .t)) (c .before .if1 .taken))
+    refused-five l es (a .s) n k (Read (a .t)) _ (c .refused .ensures) (c .before .if1 .taken)
 
 call-refusal-requires : tie.Need-call-refusal-requires
 call-refusal-requires c κs = search needs
@@ -30,8 +28,7 @@ returns-2 c =
     let else1 = after-refusal .before in
     let a = else1 .before .before .args in
     λ l es n k.
-    ap (λ (o : Outcome). steppedOf l es n o) (c .refused2 .ensures)
-    ∙ sym (refused-by l es (a .s) n k (Read (a .t)) (else1 .if1 .left) _ (after-refusal .call-refusal .ensures) (c .before .if2 .taken))
+    refused-by l es (a .s) n k (Read (a .t)) (else1 .if1 .left) _ (after-refusal .call-refusal .ensures) (c .before .if2 .taken) _ (c .refused2 .ensures)
 
 counted-requires : tie.Need-counted-requires
 counted-requires c κs = search needs

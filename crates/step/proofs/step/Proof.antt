@@ -1,4 +1,4 @@
-use Rattle.step.proofs.Ready.{clean-ready, entries-all, fits-all, control-low}
+use Rattle.step.proofs.Ready.{write-ready, control-low}
 use Rattle.machine.specs.Lists.{lists}
 use lib.ListN.{length}
 use denote.Ref.{now}
@@ -29,14 +29,8 @@ write-step-requires : tie.Need-write-step-requires
 write-step-requires c κs =
     let start = c .before .before .before .before .before .before .before .before .before .before .before .before .before .before .before .before in
     let a = start .args in
-    let l = (lists (now (a .memory)) (now (a .bad)) (now (a .words)) (now (a .bytes)) (now (a .lines)) (now (a .pointers)) (now (a .store))) in
-    let es = now (a .entries) in
-    let n = length (now (a .memory)) in
-    let k = start .pre .3 in (
-      entries-all l es (a .s) n k,
-      start .pre .2,
-      λ low. clean-ready l es (a .s) n k low (fits-all l es (a .s) n k (start .pre .1) (start .pre .2)),
-    )
+    write-ready (lists (now (a .memory)) (now (a .bad)) (now (a .words)) (now (a .bytes)) (now (a .lines)) (now (a .pointers)) (now (a .store)))
+    (now (a .entries)) (a .s) (length (now (a .memory))) (start .pre .3) (start .pre .1) (start .pre .2)
 
 same-length : tie.Need-same-length
 same-length c = search needs

@@ -1,4 +1,4 @@
-use Rattle.step.proofs.Ready.{clean-ready, entries-all, fits-all, control-low}
+use Rattle.step.proofs.Ready.{write-ready, control-low}
 use Rattle.step.specs.Call.{served}
 use Rattle.machine.specs.Lists.{lists, machineOf}
 use Rattle.trace.proofs.Calls.{read-of, write-of}
@@ -63,16 +63,11 @@ shared-slice-read-write-step c = search needs
 
 write-step-requires : tie.Need-write-step-requires
 write-step-requires c κs =
-    let start = c .before .before .before .before .before .before .before .before .before .before .before .before .before .before .before .before .before .before .before in
+    let start = c .before .before .before .before .before .before .before .before .before .before .before .before .before
+    .before .before .before .before .before .before in
     let a = start .args in
-    let l = (lists (now (a .memory)) (now (a .bad)) (now (a .words)) (now (a .bytes)) (now (a .lines)) (now (a .pointers)) (now (a .store))) in
-    let es = now (a .entries) in
-    let n = length (now (a .memory)) in
-    let k = start .pre .0 .3 in (
-      entries-all l es (a .s) n k,
-      start .pre .0 .2,
-      λ low. clean-ready l es (a .s) n k low (fits-all l es (a .s) n k (start .pre .0 .1) (start .pre .0 .2)),
-    )
+    write-ready (lists (now (a .memory)) (now (a .bad)) (now (a .words)) (now (a .bytes)) (now (a .lines)) (now (a .pointers)) (now (a .store)))
+    (now (a .entries)) (a .s) (length (now (a .memory))) (start .pre .0 .3) (start .pre .0 .1) (start .pre .0 .2)
 
 same-length : tie.Need-same-length
 same-length c = search needs
@@ -110,7 +105,8 @@ access-at-requires c κs = search needs
 
 access-step-requires : tie.Need-access-step-requires
 access-step-requires c κs =
-    let start = c .before .before .before .before .before .before .before .before .before .before .before .before .before .before .before .before .before .before .before in
+    let start = c .before .before .before .before .before .before .before .before .before .before .before .before .before
+    .before .before .before .before .before .before in
     start .pre .0
 
 same-length-6 : tie.Need-same-length-6

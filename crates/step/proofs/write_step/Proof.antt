@@ -1,13 +1,12 @@
 use Rattle.step.proofs.Ready.{refused-five, refused-by, not-refused, clean-counted}
-use Rattle.machine.specs.declared.Outcome.{Outcome}
 use Rattle.machine.specs.declared.Scalars.{Scalars}
 use Rattle.machine.specs.Ready.{CleanReady}
-use Rattle.machine.specs.Lists.{lists, steppedOf}
+use Rattle.machine.specs.Lists.{lists}
 use Rattle.values.specs.Counts.{countLimit}
 use Rattle.values.specs.declared.Call.the-variants.{Write}
 use Prim.Native.Nat.{_<_}
 use native.Mathlib.Omega.{arith}
-use mathlib.Core.Path.{sym, _∙_, ap, subst}
+use mathlib.Core.Path.{sym, _∙_, subst}
 use denote.Ref.{now}
 use borrow.Author.Needs.{needs}
 use Rattle.step.proofs.write_step.Statement.{statement}
@@ -22,8 +21,7 @@ returns c =
     let a = start .args in (
       λ pointers n k.
           let l = (lists (now (a .memory)) (now (a .bad)) (now (a .words)) (now (a .bytes)) (now (a .lines)) pointers (now (a .store))) in
-          ap (λ (o : Outcome). steppedOf l (now (a .entries)) n o) (c .refused .ensures)
-          ∙ sym (refused-five l (now (a .entries)) (a .s) n k (Write (a .t) (a .v)) (c .before .if1 .taken)),
+          refused-five l (now (a .entries)) (a .s) n k (Write (a .t) (a .v)) _ (c .refused .ensures) (c .before .if1 .taken),
       start .pre .1,
     )
 
@@ -41,9 +39,8 @@ returns-2 c =
     let a = start .args in (
       λ pointers n k.
           let l = (lists (now (a .memory)) (now (a .bad)) (now (a .words)) (now (a .bytes)) (now (a .lines)) pointers (now (a .store))) in
-          ap (λ (o : Outcome). steppedOf l (now (a .entries)) n o) (c .refused2 .ensures)
-          ∙ sym (refused-by l (now (a .entries)) (a .s) n k (Write (a .t) (a .v)) (else1 .if1 .left) _
-          (after-refusal .call-refusal .ensures) (c .before .if2 .taken)),
+          refused-by l (now (a .entries)) (a .s) n k (Write (a .t) (a .v)) (else1 .if1 .left) _
+          (after-refusal .call-refusal .ensures) (c .before .if2 .taken) _ (c .refused2 .ensures),
       start .pre .1,
     )
 
