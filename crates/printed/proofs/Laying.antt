@@ -89,3 +89,37 @@ module _ (o p : List ℕ) (a e m : ℕ) (xs : List ℕ) (l : Laid o p a e m xs) 
       let u = l .short in
       let v = r .short in
       record { same = s ∙ over-then o a xs ys h; ends = omega arith; short = omega arith }
+
+-- ---- parts laid one behind another
+
+-- some bytes are still to be laid, from place a on: what they then leave is what the whole leaves, laid from place `from` on
+pub record Laying (o₀ : List ℕ) (from : ℕ) (whole o : List ℕ) (a : ℕ) (rest : List ℕ) : Type 0 where
+  pub long : length o ≡ length o₀
+  pub ends : a + length rest ≡ from + length whole
+  pub same : over o a rest ≡ over o₀ from whole
+
+module _ (o₀ : List ℕ) (from : ℕ) (whole : List ℕ) where
+  -- before the first part the whole is to be laid
+  pub laying-start : Laying o₀ from whole o₀ from whole
+  laying-start = record { long = refl; ends = refl; same = refl }
+
+  module _ (o : List ℕ) (a : ℕ) (rest : List ℕ) (g : Laying o₀ from whole o a rest) where
+    -- the first part laid
+    pub laying-on : (part others : List ℕ) → rest ≡ part ++ others → a + length part ≤ length o → (p : List ℕ) (e m : ℕ) → Laid o p a e m part
+        → Laying o₀ from whole p e others
+    laying-on part others h room p e m l =
+        let ends = g .ends in
+        let end = l .ends in
+        let s = ap length h ∙ length-append part others in
+        let x : over p e others ≡ over o a rest =
+        ap (λ (z : List ℕ). over z e others) (l .same) ∙ ap (λ (z : ℕ). over (over o a part) z others) end ∙ over-then o a part others room
+        ∙ ap (λ (z : List ℕ). over o a z) (sym h)
+        in
+        record { long = laid-long o p a e m part l room ∙ g .long; ends = omega arith; same = x ∙ g .same }
+
+    -- nothing is left: the whole is laid
+    pub laying-end : rest ≡ [] → (m : ℕ) → a ≤ from + m → Laid o₀ o from a m whole
+    laying-end h m few =
+        let z = ap length h in
+        let ends = g .ends in
+        record { same = sym (over-none o a) ∙ ap (λ (x : List ℕ). over o a x) (sym h) ∙ g .same; ends = omega arith; short = omega arith }

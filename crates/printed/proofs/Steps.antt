@@ -6,14 +6,14 @@ use mathlib.Core.Bool.{Bool, true, false, _&&_}
 use mathlib.Core.Path.{_≡_, refl, sym, _∙_, ap}
 use mathlib.Core.List.{List, [], _∷_, _++_}
 use lib.Dec.{eqb, ltb}
-use lib.ListN.{length, getD, set, length-set, length-append}
+use lib.ListN.{length, getD, set, length-set}
 use lib.Seq.{append-snoc}
 use borrow.Author.Tests.{le-leb, lt-leb}
 use Rattle.trace.specs.Codes.{kindUnit}
 use Rattle.printed.specs.Printed.{zeroDigit, decimal, lineFeed, comma, minus}
 use Rattle.printed.specs.Code.{over, Laid, valueText, codeLine, codeLines}
 use Rattle.printed.proofs.Decimal.{digitsOf, digits-long, digits-all, decimal-one, decimal-ten}
-use Rattle.printed.proofs.Laying.{over-none, over-last, over-then, laid-long, laid-within, laid-as, laid-then}
+use Rattle.printed.proofs.Laying.{Laying, laying-start, laying-on, laying-end, over-none, over-last, laid-within, laid-as, laid-then}
 
 -- ---- the digits of a number, from the last on
 
@@ -132,21 +132,17 @@ laid-line o p₁ p₂ p₃ p₄ p₅ p₆ a e₁ e₂ e₃ e₄ e₅ e₆ b₂ b
 
 -- ---- the lines
 
--- the lines from call k on are to be laid: what they leave is what all leave
+-- the lines from call k on are to be laid
 pub record Printing (o₀ calls answers : List ℕ) (n first : ℕ) (o : List ℕ) (a k : ℕ) : Type 0 where
   pub low : k ≤ n
   pub few : a ≤ k * 34
-  pub long : length o ≡ length o₀
-  pub ends : a + length (codeLines (n - k) (first + k) calls answers k) ≡ length (codeLines n first calls answers 0)
-  pub whole : over o a (codeLines (n - k) (first + k) calls answers k) ≡ over o₀ 0 (codeLines n first calls answers 0)
+  pub laying : Laying o₀ 0 (codeLines n first calls answers 0) o a (codeLines (n - k) (first + k) calls answers k)
 
 module _ (o₀ calls answers : List ℕ) (n first : ℕ) where
   -- before the first line all are to be laid
   pub printing-start : Printing o₀ calls answers n first o₀ 0 0
   printing-start =
-      let e : codeLines (n - 0) (first + 0) calls answers 0 ≡ codeLines n first calls answers 0 = rw (sub-zero n, add-zero first) in
-      let f = ap length e in
-      record { low = omega arith; few = omega arith; long = refl; ends = omega arith; whole = ap (λ (l : List ℕ). over o₀ 0 l) e }
+      record { low = omega arith; few = omega arith; laying = rw (sub-zero n, add-zero first) (laying-start o₀ 0 (codeLines n first calls answers 0)) }
 
   module _ (o : List ℕ) (a k : ℕ) (g : Printing o₀ calls answers n first o a k) where
     -- the lines from call k on are the line of call k and those behind it
@@ -163,30 +159,22 @@ module _ (o₀ calls answers : List ℕ) (n first : ℕ) where
     pub printing-on : (p : List ℕ) (e : ℕ) → n * 34 ≤ length o₀ → k < n
         → Laid o p a e 34 (codeLine (first + k) (eqb (getD calls (k * 5) 0) 1) (getD answers k 0)) → Printing o₀ calls answers n first p e (k + 1)
     printing-on p e fits h l =
-        let line = codeLine (first + k) (eqb (getD calls (k * 5) 0) 1) (getD answers k 0) in
-        let rest = codeLines (n - (k + 1)) (first + (k + 1)) calls answers (k + 1) in
-        let m = lines-more h in
         let few = g .few in
-        let long = g .long in
-        let ends = g .ends in
+        let long = g .laying .long in
         let short = l .short in
         let end = l .ends in
-        let s = ap length m ∙ length-append line rest in
-        let room : a + length line ≤ length o = omega arith in
-        let x : over p e rest ≡ over o a (codeLines (n - k) (first + k) calls answers k) =
-        ap (λ (z : List ℕ). over z e rest) (l .same) ∙ ap (λ (z : ℕ). over (over o a line) z rest) end ∙ over-then o a line rest room
-        ∙ ap (λ (z : List ℕ). over o a z) (sym m)
+        let on = laying-on o₀ 0 (codeLines n first calls answers 0) o a (codeLines (n - k) (first + k) calls answers k) (g .laying)
+        (codeLine (first + k) (eqb (getD calls (k * 5) 0) 1) (getD answers k 0)) (codeLines (n - (k + 1)) (first + (k + 1)) calls answers (k + 1))
+        (lines-more h) (omega arith) p e 34 l
         in
-        record { low = omega arith; few = omega arith; long = laid-long o p a e 34 line l room ∙ long; ends = omega arith; whole = x ∙ g .whole }
+        record { low = omega arith; few = omega arith; laying = on }
 
     -- none is left: the lines are laid
     pub printing-end : n ≤ k → Laid o₀ o 0 a (n * 34) (codeLines n first calls answers 0)
     unfolding codeLines
     printing-end h =
         let j : n - k ≡ 0 = omega arith in
-        let e : codeLines (n - k) (first + k) calls answers k ≡ [] = ap (λ (x : ℕ). codeLines x (first + k) calls answers k) j in
-        let z = ap length e in
         let low = g .low in
         let few = g .few in
-        let ends = g .ends in
-        record { same = sym (over-none o a) ∙ ap (λ (x : List ℕ). over o a x) (sym e) ∙ g .whole; ends = omega arith; short = omega arith }
+        laying-end o₀ 0 (codeLines n first calls answers 0) o a (codeLines (n - k) (first + k) calls answers k) (g .laying)
+        (ap (λ (x : ℕ). codeLines x (first + k) calls answers k) j) (n * 34) (omega arith)

@@ -72,7 +72,7 @@ loop-again c = let after-put-byte = c .before .before in
     .last .0) (m .result) (m .ensures) (start .pre .0) (b .last .0) (b .result) (b .ensures)
 
 same-length : tie.Need-same-length Inv-loop μ-loop
-same-length c = c .before .loop .inv .long
+same-length c = c .before .loop .inv .laying .long
 
 returns : tie.Need-returns Inv-loop μ-loop
 returns c = let at-loop = c .before in

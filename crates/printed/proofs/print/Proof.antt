@@ -41,7 +41,7 @@ put-line-requires c κs = let in-loop = c .before .before .before in
     let l = at-loop .loop in
     let low = in-loop .loop-test .taken in
     let few = l .inv .few in
-    let long = l .inv .long in
+    let long = l .inv .laying .long in
     (omega (arith, start .pre .3, low), start .pre .4 (l .k) low, omega (arith, start .pre .2, low, few, long))
 
 add-k : tie.Need-add-k Inv-loop μ-loop
@@ -61,7 +61,7 @@ loop-again c = let after-put-line = c .before .before in
     (in-loop .loop-test .taken) (after-put-line .put-line .ensures)
 
 same-length : tie.Need-same-length Inv-loop μ-loop
-same-length c = c .before .loop .inv .long
+same-length c = c .before .loop .inv .laying .long
 
 returns : tie.Need-returns Inv-loop μ-loop
 returns c = let at-loop = c .before in
