@@ -2,6 +2,7 @@
 ghost use mathlib.Core.Path.{_≡_};
 ghost use Rattle.plain.specs.Run.{plainRun};
 ghost use Rattle.walk.specs.Ranges.{Ranged};
+ghost use Rattle.access_table.specs.AccessTable.{accessTable};
 ghost use Rattle.host.specs.Exports as spec;
 use values::Count;
 use values::Registers;
@@ -27,6 +28,14 @@ pub extern "C" fn sa110_right(index: u32) -> u8
     } else {
         255
     }
+}
+
+// Fills a lent array with the rights table's 256 entries, worked out from the domain values and 001's table 2-3.
+#[no_mangle]
+pub extern "C" fn sa110_rights_table(table: &mut [u8; 256])
+    ensures { λ r. ⌜ now (table .exit) ≡ accessTable ⌝ }
+{
+    access_table::work_out(table);
 }
 
 // A mapping as a number.

@@ -3,13 +3,13 @@ use Prim.Native.Nat.{ℕ, zero, suc, _+_, _*_, _/_, _%_, _^_, _<_}
 use native.Mathlib.Omega.{arith}
 use native.Mathlib.Nat.{add-zero, zero-add, add-suc, suc-add, le-of-suc-le-suc, not-suc-le-zero}
 use mathlib.Core.Bool.{Bool}
-use mathlib.Core.Path.{_≡_, sym, _∙_, ap}
+use mathlib.Core.Path.{_≡_, refl, sym, _∙_, ap}
 use lib.Dec.{eqb}
 use borrow.Author.Tests.{eqb-true, eqb-false}
-use lib.ListN.{getD}
+use lib.ListN.{length, getD}
 use Rattle.values.specs.Bits.{bit, number}
 use Rattle.values.proofs.Cases.{case, number-bit, number-low}
-use Rattle.rights.specs.Rights.{tabulated, rights, rightsAt, rightsTable, indexOf}
+use Rattle.rights.specs.Rights.{tabulated, atIndex, rights, rightsTable, indexOf}
 
 from-at : (f : ℕ → ℕ) (i n k : ℕ) → k < n → getD (tabulated f i n) k 0 ≡ f (i + k)
 from-at f i zero k h = absurd (not-suc-le-zero h)
@@ -20,11 +20,15 @@ from-at f i (suc n) (suc k) h = from-at f (suc i) n k (le-of-suc-le-suc h) ∙ a
 pub entry : (f : ℕ → ℕ) (n k : ℕ) → k < n → getD (tabulated f 0 n) k 0 ≡ f k
 entry f n k h = from-at f 0 n k h ∙ ap f (zero-add k)
 
--- "index: domain value × 64 + AP × 16 + S × 8 + R × 4 + privileged × 2 + store": the entry there is the rule's value
-pub right-at : (value ap′ : ℕ) (s r privileged store : Bool) → value < 4 → ap′ < 4
-    → getD rightsTable (indexOf value ap′ s r privileged store) 0 ≡ rights value ap′ s r privileged store
-unfolding rightsTable
-right-at value ap′ s r privileged store hv ha =
+-- as many entries as are asked for
+pub tabulated-long : (f : ℕ → ℕ) (i n : ℕ) → length (tabulated f i n) ≡ n
+tabulated-long f i zero = refl
+tabulated-long f i (suc n) = ap suc (tabulated-long f (suc i) n)
+
+-- "index: domain value × 64 + AP × 16 + S × 8 + R × 4 + privileged × 2 + store": the entry there is the function's value of these fields
+pub at-index : (f : ℕ → ℕ → Bool → Bool → Bool → Bool → ℕ) (value ap′ : ℕ) (s r privileged store : Bool) → value < 4 → ap′ < 4
+    → getD (tabulated (atIndex f) 0 256) (indexOf value ap′ s r privileged store) 0 ≡ f value ap′ s r privileged store
+at-index f value ap′ s r privileged store hv ha =
     let i = indexOf value ap′ s r privileged store in
     let hs = number-low s in
     let hr = number-low r in
@@ -40,7 +44,13 @@ right-at value ap′ s r privileged store hv ha =
     let f3 : eqb (i / 4 % 2) 1 ≡ r = ap (λ (k : ℕ). eqb k 1) e3 ∙ number-bit r in
     let f4 : eqb (i / 2 % 2) 1 ≡ privileged = ap (λ (k : ℕ). eqb k 1) e4 ∙ number-bit privileged in
     let f5 : eqb (i / 1 % 2) 1 ≡ store = ap (λ (k : ℕ). eqb k 1) e5 ∙ number-bit store in
-    entry rightsAt 256 i (omega arith) ∙ rw (e0, e1, f2, f3, f4, f5)
+    entry (atIndex f) 256 i (omega arith) ∙ rw (e0, e1, f2, f3, f4, f5)
+
+-- in the rights table it is the rule's value
+right-at : (value ap′ : ℕ) (s r privileged store : Bool) → value < 4 → ap′ < 4
+    → getD rightsTable (indexOf value ap′ s r privileged store) 0 ≡ rights value ap′ s r privileged store
+unfolding rightsTable
+right-at = at-index rights
 
 -- a bit's number is the bit
 pub bit-number : (n k : ℕ) → number (bit n k) ≡ n / 2 ^ k % 2

@@ -26,9 +26,13 @@ abbrev pub indexOf : ℕ → ℕ → Bool → Bool → Bool → Bool → ℕ
 indexOf value ap s r privileged store =
     value * 64 + ap * 16 + number s * 8 + number r * 4 + number privileged * 2 + number store
 
+-- what a function of the fields of an index gives at an index
+abbrev pub atIndex : (ℕ → ℕ → Bool → Bool → Bool → Bool → ℕ) → ℕ → ℕ
+atIndex f i = f (i / 64) (i / 16 % 4) (bit i 3) (bit i 2) (bit i 1) (bit i 0)
+
 -- the table's entry at an index
 abbrev pub rightsAt : ℕ → ℕ
-rightsAt i = rights (i / 64) (i / 16 % 4) (bit i 3) (bit i 2) (bit i 1) (bit i 0)
+rightsAt i = atIndex rights i
 
 -- a function's values at i and the n - 1 numbers behind it
 abbrev pub tabulated : (ℕ → ℕ) → ℕ → ℕ → List ℕ

@@ -1,0 +1,11 @@
+use Rattle.access_table.proofs.column.Statement.{statement}
+use Rattle.access_table.proofs.column.Tie as tie
+
+returns : tie.Need-returns
+returns c = rw (c .if1 .taken)
+
+returns-2 : tie.Need-returns-2
+returns-2 c = rw (c .if1 .left)
+
+pub column-spec : {M : Type 1} → statement M
+column-spec = tie.close (tie.spec returns returns-2)

@@ -1,0 +1,3 @@
+pub mod Permissions
+pub mod AccessTable
+pub mod Lines
