@@ -1,13 +1,14 @@
-/* Damaged input from C: random and damaged states and replays, wrong lengths, maps of bad words that do not fit, numbers that are no call, malformed traces,
- * damaged texts of states. Each lent thing lies against a page that cannot be read or written, or in a block of its own from malloc for valgrind to watch,
- * so that an access outside ends the program; so does a write to the map. Checked are: a start writes the whole state and record; the answer is one of
- * documents 01 and 02, and refusals 1 to 4, 16 and 5 are met in this order; a refused call, a look and a soundness test change nothing; a state that was
+/* Damaged input from C: random and damaged states and replays, wrong lengths, maps of bad words that do not fit, numbers that are no call, malformed
+ * traces, damaged texts of states. Each lent thing lies against a page that cannot be read or written, or in a block of its own from malloc for valgrind to
+ * watch, so that an access outside ends the program; so does a write to the map. Checked are: a start writes the whole state and record; the answer is one
+ * of documents 01 and 02, and refusals 1 to 4, 16 and 5 are met in this order; a refused call, a look and a soundness test change nothing; a state that was
  * sound stays so; a run of the list answers and leaves the same. No call changes a bad word. A fill that is aborted leaves its place empty and the cache
  * store as it was, and is not counted. A swap answers what a load answers before it, and a load after it answers the value swapped in. The plain machine
- * refuses all of a list by 16, or nothing of it. A walk takes any map. A replay that is refused changes nothing but its last two fields; any other prints
- * and leaves what a call for each line gives, in parts and slices of any length. A state is stored as the text that is laid and read here, and read back
- * from it, with a memory that cannot be touched; a storing that is refused changes no byte of its slice, and others none behind the text; a reading that is
- * refused leaves zeros; a run that is stopped, stored and read back ends as the unbroken run. */
+ * refuses all of a list by 16, or nothing of it. A walk takes any map. The rights table worked out has the entries that sa110_right gives. A replay that is refused
+ * changes nothing but its last two fields; any other prints and leaves what a call for each line gives, in parts and slices of any length. A state is
+ * stored as the text that is laid and read here, and read back from it, with a memory that cannot be touched; a storing that is refused changes no byte of
+ * its slice, and others none behind the text; a reading that is refused leaves zeros; a run that is stopped, stored and read back ends as the unbroken
+ * run. */
 #define _GNU_SOURCE
 #include "sa110.h"
 #include <stdio.h>
@@ -615,6 +616,25 @@ static void one_walk(void) {
     give_back(&memory);
     give_back(&bad);
     give_back(&fit);
+}
+
+/* The rights table, worked out into an array of any bytes, beside single entries. */
+static void one_table(void) {
+    struct block table = lend(SA110_RIGHTS);
+    uint32_t i, behind = SA110_RIGHTS + below(UINT32_MAX - SA110_RIGHTS);
+    for (i = 0; i < SA110_RIGHTS; i++) {
+        table.at[i] = (uint8_t)any();
+    }
+    sa110_rights_table(table.at);
+    for (i = 0; i < SA110_RIGHTS; i++) {
+        if (table.at[i] != sa110_right(i) || table.at[i] > 2) {
+            fail("an entry worked out is not that of sa110_right");
+        }
+    }
+    if (sa110_right(behind) != 255 || sa110_right(UINT32_MAX) != 255) {
+        fail("an entry behind the rights table's end is not 255");
+    }
+    give_back(&table);
 }
 
 #define LINES 12       /* of a text */
@@ -1328,6 +1348,7 @@ int main(int argc, char **argv) {
         one_case();
         one_plain();
         one_walk();
+        one_table();
         one_replay();
     }
     longest_text();

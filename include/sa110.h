@@ -1,8 +1,8 @@
 /* The SA-110 data side for C and C++: coprocessor 15, data TLB, page walk, Dcache and write buffer, over memory that the caller lends.
  *
- * The authority on every meaning is document 01 ("The SA-110 data side"), and of replays, swaps, stored texts and bad words document 02 ("What customers
- * request later"). The functions are proved to meet their definitions; what this header says in prose is a summary. The proofs speak of the language's
- * abstract machine: they do not cover the compiler's back end, this header, or callers.
+ * The authority on every meaning is document 01 ("The SA-110 data side"), and of replays, swaps, stored texts, bad words and the rights table worked out
+ * document 02 ("What customers request later"). The functions are proved to meet their definitions; what this header says in prose is a summary. The proofs
+ * speak of the language's abstract machine: they do not cover the compiler's back end, this header, or callers.
  *
  * Link with libsa110.a of target/staticlib, which tools/library writes. The library needs memcpy and memset, allocates nothing, keeps nothing
  * between calls, prints nothing and never aborts: every error is an answer. Different states may be used on different threads at the same time. A
@@ -454,6 +454,11 @@ uint64_t sa110_walk(const uint8_t *memory, size_t memory_length, const uint8_t *
 /* Gives an entry of the rights table: 0 allowed, 1 domain fault, 2 permission fault; 255 for an index above 255. The index is
  * domain value * 64 + AP * 16 + S * 8 + R * 4 + privileged * 2 + store; store is 1 for a store and a swap, 0 for loads. */
 uint8_t sa110_right(uint32_t index);
+
+/* Fills an array of SA110_RIGHTS bytes, whatever they were, with all entries of the rights table, by the index above. They are worked out from the domain
+ * values and the rows of document 001's table 2-3 (document 02, Six), and not read from the table that accesses use. That each is the entry that
+ * sa110_right gives at its index, and the one by which the rights of an access are checked, is proved. */
+void sa110_rights_table(uint8_t table[SA110_RIGHTS]);
 
 #ifdef __cplusplus
 }

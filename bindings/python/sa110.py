@@ -11,13 +11,14 @@
     sa110.save(m, "stopped.zip")                # the machine in a file
     m = sa110.load("stopped.zip")               # and back, in another process too, to carry on
     print(sa110.replay("3,1,1,0,0\\n"), end="")   # a trace kept as text, replayed on 65,536 zero bytes: 1,0,112
+    print(sa110.rights_table()[66])             # an entry of the rights table, worked out from document 001's table 2-3: 2
 
-include/sa110.h says what each function of the library does; document 01, and document 02 for replays, swaps, stored texts and bad words, is the authority
-on every meaning. What the library refuses of a start or a call is an answer. A ValueError is raised for numbers that do not fit into 32 bits and for a
-memory, a cache store or a map of which two are one bytearray, a TypeError for arguments of another type (memory is a length, or a bytearray, whose bytes
-the calls change; anything else that has bytes is copied), and an OSError where the shared object is missing. A replay raises a ValueError where it is fed
-behind its end, and where its struct's fields are outside their ranges. A StateError, which is a ValueError, is raised where a machine cannot be stored as
-text or saved, or a text or a file cannot be read back; an OSError where a file cannot be opened, read or written.
+include/sa110.h says what each function of the library does; document 01, and document 02 for replays, swaps, stored texts, bad words and the rights
+table worked out, is the authority on every meaning. What the library refuses of a start or a call is an answer. A ValueError is raised for numbers that do
+not fit into 32 bits and for a memory, a cache store or a map of which two are one bytearray, a TypeError for arguments of another type (memory is a length,
+or a bytearray, whose bytes the calls change; anything else that has bytes is copied), and an OSError where the shared object is missing. A replay raises a
+ValueError where it is fed behind its end, and where its struct's fields are outside their ranges. A StateError, which is a ValueError, is raised where a
+machine cannot be stored as text or saved, or a text or a file cannot be read back; an OSError where a file cannot be opened, read or written.
 
 The map of bad words, `bad`, is a bytearray with a byte for each word of memory: 1 for a word that aborts, 0 for a good one. Where it is not given, it has
 zeros. Another length than a quarter of memory's, and a byte above 1, are refused by 16 in each call's answer. What is said of a run, as that the plain
@@ -36,6 +37,7 @@ from typing import NamedTuple, Optional
 
 STORE_BYTES = 16384
 WORD_BYTES = 4  # the map of bad words has a byte for each word of memory
+RIGHTS = 256  # entries of the rights table
 FIELDS = 5
 TRACE_LINE = 64  # bytes of the longest line of a trace as text, with its line feed
 PRINTED_LINE = 34  # bytes of the longest line that a replay prints, with its line feed
@@ -300,6 +302,7 @@ def load_library(path=None):
         "sa110_read_text": (c_uint32, state + slice_ * 2),
         "sa110_walk": (c_uint64, slice_ * 2 + [c_uint32, c_uint32]),
         "sa110_right": (c_uint8, [c_uint32]),
+        "sa110_rights_table": (None, [POINTER(c_uint8 * RIGHTS)]),
     }
     for name, (result, arguments) in functions.items():
         function = getattr(library, name)
@@ -632,3 +635,10 @@ def walk(memory, base, va, bad=None):
 def right(i):
     """The rights table's entry: 0 allowed, 1 domain fault, 2 permission fault; 255 behind its end."""
     return _lib().sa110_right(*_numbers(i))
+
+
+def rights_table():
+    """All 256 entries of the rights table, as bytes, worked out from the domain values and the rows of document 001's table 2-3."""
+    table = (c_uint8 * RIGHTS)()
+    _lib().sa110_rights_table(byref(table))
+    return bytes(table)

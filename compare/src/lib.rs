@@ -15,7 +15,7 @@ pub mod sound;
 pub mod texts;
 pub mod traces;
 
-pub use sa110::{plain_run, right, walk, PlainRan, NO_CALL};
+pub use sa110::{plain_run, right, rights_table, walk, PlainRan, NO_CALL};
 use sa110_model::Call;
 
 /// The five numbers of each call.

@@ -1,7 +1,8 @@
-//! The rights table, and walks over random tables with maps of bad words.
+//! The rights table, also as it is worked out and printed, and walks over random tables with maps of bad words.
 
 use sa110_compare::packed::entry_word;
-use sa110_compare::{right, walk};
+use sa110_compare::{right, rights_table, walk};
+use sa110_model::access_table;
 use sa110_model::bus::{Bus, Word};
 use sa110_model::random::rng::{from_environment, Rng};
 use sa110_model::random::world::{world, World};
@@ -14,6 +15,24 @@ fn rights_entries() {
     }
     assert_eq!(right(256), 255);
     assert_eq!(right(u32::MAX), 255);
+}
+
+/// The table worked out by the library, by the second model, and entry by entry.
+#[test]
+fn worked_out_entries() {
+    let worked_out = access_table::worked_out();
+    for (i, entry) in rights_table().into_iter().enumerate() {
+        assert_eq!(entry, worked_out[i], "entry {i}");
+        assert_eq!(entry, right(i as u32), "entry {i}");
+    }
+}
+
+/// The text that the program rights_table prints is the second model's.
+#[test]
+fn program_prints_the_table() {
+    let printed = include_str!("../../crates/rights_table/stdout");
+    assert_eq!(printed, access_table::text());
+    assert!(printed.lines().any(|line| line == "66,2"));
 }
 
 /// What a walk answers by the second model, and what it comes to: a mapping, a fault, one by a bad word.

@@ -16,9 +16,11 @@
 //! `library` holds the entry points: `start`, `call`, `run`, `look`. `replay` replays traces kept as text
 //! (document 02, One). The swap (document 02, Two) is a data access. `text` stores a state as text and
 //! reads it back (document 02, Four). `bus` says which words abort (document 02, Five).
+//! `access_table` works out the rights table, and its text (document 02, Six).
 //! `random` makes runs and states; `coverage` counts what happened in them.
 
 pub mod access;
+pub mod access_table;
 pub mod answers;
 pub mod buffer;
 pub mod bus;

@@ -12,6 +12,8 @@ pub const TLB_ENTRIES: usize = 32;
 pub const SETS: usize = 16;
 pub const LINES: usize = 512;
 pub const BUFFER_ENTRIES: usize = 8;
+/// Entries of the rights table.
+pub const RIGHTS: usize = 256;
 /// Numbers per call.
 pub const FIELDS: usize = 5;
 /// The longest line of a trace as text, with the line feed that ends it.

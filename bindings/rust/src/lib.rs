@@ -1,6 +1,6 @@
 //! The SA-110 data side for Rust: safe functions over the static library. include/sa110.h says what
-//! each function does; document 01, and document 02 for replays, swaps, states as text and bad words, is the
-//! authority on every meaning. Every error is an answer, and nothing panics.
+//! each function does; document 01, and document 02 for replays, swaps, states as text, bad words and the rights
+//! table worked out, is the authority on every meaning. Every error is an answer, and nothing panics.
 //!
 //! Memory is lent with a map of bad words, `bad`: one byte a word, 1 for a word that aborts on the bus, else 0.
 //! Its length is a quarter of memory's, and it is the same through a run. `no_bad_words` makes one of zeros.
@@ -192,6 +192,7 @@ extern "C" {
     ) -> u64;
     fn sa110_sound(state: *const State, cp15: *const Cp15, n: usize) -> u32;
     fn sa110_right(index: u32) -> u8;
+    fn sa110_rights_table(table: *mut [u8; RIGHTS]);
     fn sa110_walk(
         memory: *const u8,
         memory_length: usize,
@@ -342,6 +343,13 @@ impl Machine {
 /// The rights table's entry, or 255 behind its end.
 pub fn right(index: u32) -> u8 {
     unsafe { sa110_right(index) }
+}
+
+/// All entries of the rights table, worked out from the domain values and the rows of document 001's table 2-3.
+pub fn rights_table() -> [u8; RIGHTS] {
+    let mut table = [0; RIGHTS];
+    unsafe { sa110_rights_table(&mut table) };
+    table
 }
 
 /// A map without bad words for a memory of so many bytes.
