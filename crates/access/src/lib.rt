@@ -1,4 +1,6 @@
 // A data access on the library's machine: alignment, translation and rights are decided, then TLB and misses change, then the access is made.
+#![tactic(auto)]
+
 ghost use Rattle.std.specs.Prelude.{◌≡◌, true, ℕ, length};
 ghost use Rattle.words.specs.Words.{is_width};
 ghost use Rattle.rights.specs.Rights.{rights_table};

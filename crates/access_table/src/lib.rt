@@ -1,4 +1,6 @@
 // The access table: the 256 entries of the rights table worked out from the domain values and 001's table 2-3, and its lines of text.
+#![tactic(auto)]
+
 ghost use Rattle.std.specs.Prelude.{◌≡◌, ◌+◌, ◌≤◌, ◌<◌, length};
 ghost use Rattle.printed.specs.Code.{Laid};
 ghost use Rattle.rights.specs.Rights.{at_index};

@@ -1,4 +1,6 @@
 // Lines of a text, replayed and printed.
+#![tactic(auto)]
+
 ghost use Rattle.std.specs.Prelude.{◌≡◌, ◌+◌, ◌*◌, ◌≤◌, ◌<◌, length};
 ghost use Rattle.sa110.specs.State.{machine_in};
 ghost use Rattle.batch.specs.Batch as spec;

@@ -1,4 +1,6 @@
 // The write buffer: eight entries in front of memory, oldest first. An entry's word and its sixteen bytes are lent apart.
+#![tactic(auto)]
+
 ghost use Rattle.std.specs.Prelude.{◌≡◌, [], ◌∷◌, ◌++◌, ◌+◌, ◌-◌, ◌*◌, ◌/◌, ◌%◌, ◌<◌, ◌≤◌, length, drop, replicate};
 ghost use Rattle.buffer.specs.Buffer as spec;
 ghost use Rattle.buffer.specs.Packing.{slot_of, backing_of};

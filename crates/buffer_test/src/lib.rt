@@ -1,4 +1,6 @@
 // Refusal 3 of the write buffer: its entries, and its empty places.
+#![tactic(auto)]
+
 ghost use Rattle.std.specs.Prelude.{◌≡◌, cond, ◌||◌, length, eqb};
 ghost use Rattle.values.specs.Bits.{bit};
 ghost use Rattle.buffer.specs.Buffer.{buffer_from};

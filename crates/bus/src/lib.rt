@@ -1,4 +1,6 @@
 // The lent memory as the bus sees it: which words abort, and the reader of descriptor words.
+#![tactic(auto)]
+
 ghost use Rattle.std.specs.Prelude.{true, false, List, ◌≡◌, ℕ, ◌+◌, ◌<◌, ◌≤◌};
 ghost use Rattle.bus.specs.Physical as spec;
 ghost use Rattle.bus.specs.Physical.{physical};

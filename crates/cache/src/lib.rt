@@ -1,4 +1,6 @@
 // The Dcache: 512 lines, each one word, in a lent slice; their bytes in the cache store.
+#![tactic(auto)]
+
 ghost use Rattle.std.specs.Prelude.{◌≡◌, true, List, ℕ, ◌+◌, ◌*◌, ◌/◌, ◌%◌, ◌<◌, ◌≤◌, length, get_or, set, take, drop};
 ghost use Rattle.values.specs.Lists.{first_from};
 ghost use Rattle.values.specs.Empty.{empty_line, no_lines};

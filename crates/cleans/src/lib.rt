@@ -1,4 +1,6 @@
 // Lines of the Dcache sent to the write buffer, by their dirty halves, and cleaned.
+#![tactic(auto)]
+
 ghost use Rattle.std.specs.Prelude.{◌≡◌, true, List, ℕ, ◌+◌, ◌*◌, ◌≤◌, length, take, drop};
 ghost use Rattle.buffer.specs.Packing.{backing_of};
 ghost use Rattle.buffer.specs.Ranges.{Fits, Left};

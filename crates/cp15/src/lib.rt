@@ -1,4 +1,6 @@
 // CP15 calls on the library's machine: register reads and writes, and the operations of registers 7 and 8.
+#![tactic(auto)]
+
 ghost use Rattle.std.specs.Prelude.{◌≡◌, ◌||◌, List, ℕ, ◌<◌, length};
 ghost use Rattle.cache.specs.Packing.{lines_of};
 ghost use Rattle.cache.specs.Dcache as dcache;

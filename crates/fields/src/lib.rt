@@ -1,4 +1,6 @@
 // Lines of text read as calls: five decimal fields parted by commas.
+#![tactic(auto)]
+
 ghost use Rattle.std.specs.Prelude.{◌≡◌, cond, ◌||◌, ◌+◌, ◌-◌, ◌*◌, ◌≤◌, ◌<◌, leb, length, drop};
 ghost use Rattle.fields.specs.Lines as lines;
 ghost use Rattle.fields.specs.Parse as parses;

@@ -1,4 +1,6 @@
 // Lines of the Dcache filled: the line at the set's pointer gives way, and a line of memory is read.
+#![tactic(auto)]
+
 ghost use Rattle.std.specs.Prelude.{◌≡◌, ◌+◌, ◌*◌, ◌<◌, ◌≤◌, length};
 ghost use Rattle.bus.specs.Physical.{physical, line_aborts};
 ghost use Rattle.buffer.specs.Buffer.{ready};

@@ -1,5 +1,6 @@
 // A first run: a short list of calls on 64 KB of memory with page tables in it, what each answers, and the counts; the same list on the plain
 // machine; then some calls one by one, looks, and loads of a line with a bad word.
+#![tactic(auto)]
 
 ghost use Rattle.std.specs.Prelude.{◌≡◌, ◌<◌, length};
 

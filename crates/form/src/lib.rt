@@ -1,4 +1,6 @@
 // Numbers as a text, and read back from it, by the bytes behind them.
+#![tactic(auto)]
+
 ghost use Rattle.std.specs.Prelude.{◌≡◌, ◌+◌, ◌-◌, ◌*◌, ◌≤◌, length, drop, replicate};
 ghost use Rattle.printed.specs.Printed.{comma};
 ghost use Rattle.printed.specs.Code.{over};

@@ -1,4 +1,6 @@
 // What a replay holds between two parts: the start, the test of its fields, and what is held behind lines and behind bytes put out.
+#![tactic(auto)]
+
 ghost use Rattle.std.specs.Prelude.{◌≡◌, List, [], ℕ, ◌+◌, ◌≤◌, length, take, drop};
 ghost use Rattle.sa110.specs.State.{machine_in};
 ghost use Rattle.batch.specs.Batch.{lines_limit};

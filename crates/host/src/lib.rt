@@ -1,4 +1,6 @@
 // The plain machine, the walk and the rights table for C and Rust.
+#![tactic(auto)]
+
 ghost use Rattle.std.specs.Prelude.{◌≡◌};
 ghost use Rattle.plain.specs.Run.{plain_run};
 ghost use Rattle.walk.specs.Ranges.{Ranged};

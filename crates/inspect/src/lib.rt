@@ -1,4 +1,6 @@
 // Functions for C and Rust that read a lent state and record and change nothing: the look, and the test of soundness.
+#![tactic(auto)]
+
 ghost use Rattle.std.specs.Prelude.{◌≡◌, List, ℕ, length};
 ghost use Rattle.values.specs.Bits.{number};
 ghost use Rattle.soundness.specs.Soundness.{sound};

@@ -1,4 +1,6 @@
 // Functions for C and Rust over a lent state and record, which a call changes in place.
+#![tactic(auto)]
+
 ghost use Rattle.std.specs.Prelude.{List, ◌≡◌, ℕ};
 ghost use Rattle.step.specs.Start.{started};
 ghost use Rattle.step.specs.Run as runs;

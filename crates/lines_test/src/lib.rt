@@ -1,4 +1,6 @@
 // Refusal 3 of lines: the pointers of the sets, each line by itself, and the dirty halves of all.
+#![tactic(auto)]
+
 ghost use Rattle.std.specs.Prelude.{◌≡◌, ◌||◌, ℕ, ◌+◌, ◌*◌, ◌/◌, ◌%◌, ◌<◌, ◌≤◌, length};
 ghost use Rattle.values.specs.Lists.{all, sum};
 ghost use Rattle.cache.specs.Dcache as dcache;

@@ -1,4 +1,6 @@
 // Loads whose alignment, translation and rights pass: from the Dcache, by a fill, or from memory.
+#![tactic(auto)]
+
 ghost use Rattle.std.specs.Prelude.{◌≡◌, true, false, List, ℕ, ◌<◌, ◌≤◌, ◌+◌, length};
 ghost use Rattle.values.specs.Counts.{count_limit};
 ghost use Rattle.words.specs.Words.{is_width};

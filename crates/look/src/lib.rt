@@ -1,4 +1,6 @@
 // A look: the 32 bytes of a virtual address's line.
+#![tactic(auto)]
+
 ghost use Rattle.std.specs.Prelude.{◌≡◌, cond, ◌≤◌, ◌+◌, ◌*◌, ◌%◌, length};
 ghost use Rattle.values.specs.Addresses.{flat};
 ghost use Rattle.values.specs.Control.{mmu};

@@ -1,4 +1,6 @@
 // What the lent lists do not hold of the library's machine, and how each part of it changes.
+#![tactic(auto)]
+
 ghost use Rattle.std.specs.Prelude.{◌≡◌, ◌<◌, ◌≤◌, ◌+◌};
 ghost use Rattle.values.specs.Counts as counts;
 ghost use Rattle.values.specs.Counts.{count_limit};

@@ -1,4 +1,6 @@
 // Whether the write buffer masks bytes that are to be read from memory; it is drained then.
+#![tactic(auto)]
+
 ghost use Rattle.std.specs.Prelude.{◌≡◌, true, List, ℕ, ◌+◌, ◌*◌, ◌%◌, ◌≤◌, length};
 ghost use Rattle.words.specs.Words.{is_width};
 ghost use Rattle.buffer.specs.Buffer as spec;

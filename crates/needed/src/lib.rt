@@ -1,1 +1,2 @@
 // That a run can keep the rules, and that each rule is needed: specs/ and proofs/.
+#![tactic(auto)]

@@ -1,4 +1,6 @@
 // The numbers of TLB entries, cache lines and buffer entries, and the words of numbers.
+#![tactic(auto)]
+
 ghost use Rattle.std.specs.Prelude.{◌≡◌, true, [], ◌∷◌, ◌+◌, ◌*◌, ◌≤◌, ◌<◌, length, drop};
 ghost use Rattle.printed.specs.Code.{over};
 ghost use Rattle.form.specs.Form.{each_numbers};

@@ -1,4 +1,6 @@
 // Bytes of a text and of what is printed: searched, copied, put behind others.
+#![tactic(auto)]
+
 ghost use Rattle.std.specs.Prelude.{◌≡◌, ◌++◌, ◌+◌, ◌-◌, ◌≤◌, min, length, take, drop};
 ghost use Rattle.values.specs.Lists.{any};
 ghost use Rattle.pieces.specs.Pieces as spec;

@@ -1,4 +1,6 @@
 // The plain machine: no TLB, no Dcache, no write buffer.
+#![tactic(auto)]
+
 ghost use Rattle.std.specs.Prelude.{◌≡◌, true, List, ℕ, ◌<◌, length};
 ghost use Rattle.rights.specs.Rights.{rights_table};
 ghost use Rattle.words.specs.Words.{is_width, value_at};

@@ -1,4 +1,6 @@
 // Answers printed as lines of text: line number, kind, value.
+#![tactic(auto)]
+
 ghost use Rattle.std.specs.Prelude.{◌&&◌, [], ◌∷◌, ◌≡◌, ℕ, ◌+◌, ◌*◌, ◌≤◌, ◌<◌, ltb, length, get_or};
 ghost use Rattle.printed.specs.Printed.{decimal};
 ghost use Rattle.printed.specs.Code as spec;

@@ -1,4 +1,6 @@
 // Alignment, translation by TLB or walk, and rights: what is decided of an access, and the change of TLB and misses behind it.
+#![tactic(auto)]
+
 ghost use Rattle.std.specs.Prelude.{◌≡◌, List, ℕ, ◌<◌, ◌%◌, length, get_or, true};
 ghost use Rattle.words.specs.Words.{is_width};
 ghost use Rattle.rights.specs.Rights.{rights_table};

@@ -1,4 +1,6 @@
 // The refusals that the lengths and the call alone decide: the number of the first row met, 0 where none is.
+#![tactic(auto)]
+
 ghost use Rattle.std.specs.Prelude.{◌≡◌, true, false, not, [], ◌∷◌, ℕ, leb};
 ghost use Rattle.values.specs.Lists.{all};
 ghost use Rattle.values.specs.Kinds.{is_store};

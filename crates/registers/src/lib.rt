@@ -1,4 +1,6 @@
 // The registers of coprocessor 15, and the operation pairs of registers 7 and 8.
+#![tactic(auto)]
+
 ghost use Rattle.std.specs.Prelude.{◌≡◌, ◌<◌};
 ghost use Rattle.values.specs.Control as control;
 ghost use Rattle.registers.specs.Pairs as pairs;

@@ -1,4 +1,6 @@
 // A trace kept as text, replayed in parts: text in, text out.
+#![tactic(auto)]
+
 ghost use Rattle.std.specs.Prelude.{◌≡◌, true, cond, ◌&&◌, eqb, leb, ◌/◌, ◌≤◌, min, length};
 ghost use Rattle.batch.specs.Batch.{lines_limit};
 ghost use Rattle.replay.specs.Parts as spec;

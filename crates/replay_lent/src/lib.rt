@@ -1,4 +1,6 @@
 // The replay for C and Rust, over a lent record, which a part changes in place.
+#![tactic(auto)]
+
 ghost use Rattle.std.specs.Prelude.{◌≡◌};
 ghost use Rattle.replay.specs.Parts.{part};
 ghost use Rattle.replay.specs.Code.{held_of, parted_of, flag};

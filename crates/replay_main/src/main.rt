@@ -1,4 +1,6 @@
 // Replays a trace kept as text: standard input to standard output, in blocks, on 65,536 zero bytes of memory with no bad word.
+#![tactic(auto)]
+
 ghost use Rattle.std.specs.Prelude.{length, ◌+◌, ◌≤◌};
 
 use libc::{STDERR_FILENO, STDIN_FILENO, STDOUT_FILENO};

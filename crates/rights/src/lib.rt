@@ -1,4 +1,6 @@
 // The rights of an access, out of a constant table, and the domain values of register 3.
+#![tactic(auto)]
+
 ghost use Rattle.std.specs.Prelude.{◌≡◌, ◌<◌};
 ghost use Rattle.values.specs.Bits.{bit};
 ghost use Rattle.rights.specs.Rights.{rights, rights_at, rights_table, domain_value};

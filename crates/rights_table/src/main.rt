@@ -1,5 +1,7 @@
 // Prints the access table of document 02, Six: the 256 entries of the rights table, worked out from the domain values and 001's table 2-3, each on a
 // line as index, entry, rising.
+#![tactic(auto)]
+
 ghost use Rattle.std.specs.Prelude.{length, ◌≤◌};
 
 use libc::{STDERR_FILENO, STDOUT_FILENO};

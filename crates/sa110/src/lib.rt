@@ -1,4 +1,6 @@
 // The library's calls: what users call. The state with its start and its test, and the look, come from crates of their own.
+#![tactic(auto)]
+
 ghost use Rattle.std.specs.Prelude.{◌≡◌};
 ghost use Rattle.trace.specs.Fold.{calls_in, Holds};
 ghost use Rattle.step.specs.Meets.{state_refusal};

@@ -1,1 +1,2 @@
 // Refusal 3, "The state is unsound", stands in specs/, and laws of its clauses in proofs/.
+#![tactic(auto)]

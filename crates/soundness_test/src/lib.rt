@@ -1,4 +1,6 @@
 // Refusal 3, "The state is unsound": each clause as a test over the lent words.
+#![tactic(auto)]
+
 ghost use Rattle.std.specs.Prelude.{◌≡◌, List, ℕ, ◌+◌, ◌*◌, ◌/◌, ◌%◌, ◌<◌, ◌&&◌, length, eqb};
 ghost use Rattle.values.specs.Lists.{all, sum};
 ghost use Rattle.tlb.specs.Tlb.{base_of};

@@ -1,4 +1,6 @@
 // The state that a user holds, by value: its words and bytes, the tests of refusals 1 to 4 and 16, and the start.
+#![tactic(auto)]
+
 ghost use Rattle.std.specs.Prelude.{◌≡◌, List, ℕ, length};
 ghost use Rattle.values.specs.Registers.{zero_cp15};
 ghost use Rattle.machine.specs.Machine as machines;

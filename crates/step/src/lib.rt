@@ -1,4 +1,6 @@
 // One call, and a list of calls, on lent lists that refusals 1 to 4 and 16 do not hold of.
+#![tactic(auto)]
+
 ghost use Rattle.std.specs.Prelude.{◌≡◌, List, ℕ, ◌+◌, ◌*◌, ◌<◌, ◌≤◌, length};
 ghost use Rattle.machine.specs.Lists.{Lists, lists, machine_of, stepped_of};
 ghost use Rattle.machine.specs.Ready.{CleanReady};

@@ -1,4 +1,6 @@
 // Stores whose alignment, translation and rights pass: into the Dcache, the write buffer or memory.
+#![tactic(auto)]
+
 ghost use Rattle.std.specs.Prelude.{◌≡◌, true, false, cond, List, ℕ, ◌<◌, length};
 ghost use Rattle.values.specs.Counts.{count_limit};
 ghost use Rattle.words.specs.Words.{is_width};

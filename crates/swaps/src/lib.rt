@@ -1,4 +1,6 @@
 // Swaps whose alignment, translation and rights pass: in the Dcache, or in memory behind a drain. Stores or swaps, by their kind.
+#![tactic(auto)]
+
 ghost use Rattle.std.specs.Prelude.{◌≡◌, true, false, List, ℕ, ◌<◌, length};
 ghost use Rattle.values.specs.Counts.{count_limit};
 ghost use Rattle.words.specs.Words.{is_width};

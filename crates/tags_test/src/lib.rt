@@ -1,4 +1,6 @@
 // Refusal 3 of a set: no two valid lines with equal tags.
+#![tactic(auto)]
+
 ghost use Rattle.std.specs.Prelude.{◌≡◌, ℕ, ◌+◌, ◌/◌, ◌%◌, ◌<◌, ◌≤◌, true, false, length, take, drop, nat_eq, slice_index};
 ghost use Rattle.values.specs.Lists.{all, any};
 ghost use Rattle.cache.specs.Packing.{lines_of};

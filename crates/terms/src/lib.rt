@@ -1,1 +1,2 @@
 // Terms 1 to 3 stand in specs/ and proofs/.
+#![tactic(auto)]

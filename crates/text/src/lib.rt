@@ -1,4 +1,6 @@
 // A state and a record stored as text, and read back.
+#![tactic(auto)]
+
 ghost use Rattle.std.specs.Prelude.{◌≡◌, List, ℕ, ◌<◌, ◌≤◌, length};
 ghost use Rattle.state.specs.State.{machine_in, started_of};
 ghost use Rattle.text.specs.Store as storing;

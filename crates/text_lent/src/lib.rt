@@ -1,4 +1,6 @@
 // Functions for C and Rust over a lent state and record: stored as text, and read back.
+#![tactic(auto)]
+
 ghost use Rattle.std.specs.Prelude.{◌≡◌, List, ℕ};
 ghost use Rattle.sa110.specs.State.{machine_in, started_of};
 ghost use Rattle.text.specs.Read.{read_back};

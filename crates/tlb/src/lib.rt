@@ -1,4 +1,6 @@
 // The TLB: 32 entries, each one word, in a lent slice.
+#![tactic(auto)]
+
 ghost use Rattle.std.specs.Prelude.{◌≡◌, ℕ, ◌<◌, length, get_or};
 ghost use Rattle.tlb.specs.Tlb as spec;
 ghost use Rattle.tlb.specs.Tlb.{placed, flushed, dropped, stepped};

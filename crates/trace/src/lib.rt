@@ -1,4 +1,6 @@
 // Calls and answers as numbers, for runs over lent lists.
+#![tactic(auto)]
+
 ghost use Rattle.std.specs.Prelude.{◌≡◌, ℕ, ◌+◌, ◌*◌, ◌/◌, ◌≤◌, min, length, get_or};
 ghost use Rattle.trace.specs.Calls as spec;
 ghost use Rattle.trace.specs.Codes as codes;

@@ -1,4 +1,6 @@
 // Alignment, translation, rights and faults: what the library's machine and the plain machine share.
+#![tactic(auto)]
+
 ghost use Rattle.std.specs.Prelude.{◌≡◌, ◌<◌, ◌%◌, ◌^◌, true};
 ghost use Rattle.walk.specs.Ranges as ranges;
 ghost use Rattle.words.specs.Words.{is_width};

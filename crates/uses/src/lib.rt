@@ -1,4 +1,6 @@
 // One list of calls on both machines. Term 3 of any use of the library stands in specs/ and proofs/.
+#![tactic(auto)]
+
 ghost use Rattle.std.specs.Prelude.{◌≡◌};
 ghost use Rattle.sa110.specs.State.{ran_of};
 ghost use Rattle.uses.specs.Both.{ran_from_start, BeginAlike, EndAlike};

@@ -51,7 +51,7 @@ matched p k (x ∷ xs) d i e =
       from = omega arith;
       below = omega arith;
       match = rw z m.match;
-      first = λ j. elim j [ zero ↦ λ h. t | suc n ↦ λ h. m.first n (omega arith) ];
+      first = elim [ zero ↦ λ h. t | suc n ↦ λ h. m.first n (omega arith) ];
     })
 
 -- what a search that found none says

@@ -1,4 +1,6 @@
 // The shared types of document 01: addresses, faults, answers, registers, counts, calls, and the places of TLB, Dcache and write buffer.
+#![tactic(auto)]
+
 ghost use Rattle.std.specs.Prelude.{◌≡◌, ◌<◌};
 ghost use Rattle.values.specs.Bits.{number};
 ghost use Rattle.values.specs.Answers.{status_of};

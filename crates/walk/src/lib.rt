@@ -1,4 +1,6 @@
 // The walk of the page tables: it reads memory alone.
+#![tactic(auto)]
+
 ghost use Rattle.std.specs.Prelude.{◌≡◌, ◌%◌, ◌<◌};
 ghost use Rattle.walk.specs.Walk as walks;
 ghost use Rattle.bus.specs.Physical.{physical};

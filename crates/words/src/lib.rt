@@ -1,4 +1,6 @@
 // Little-endian numbers of 1, 2 and 4 bytes in a lent slice, and their signed meaning.
+#![tactic(auto)]
+
 ghost use Rattle.std.specs.Prelude.{◌≡◌, true, ◌<◌, ◌+◌, ◌≤◌, ◌^◌, length, get_or};
 ghost use Rattle.words.specs.Words.{stored, is_width, fits_width, Loaded};
 ghost use Rattle.words.specs.Signed.{signed_of};
