@@ -9,7 +9,7 @@ ghost use Rattle.access_table.specs.AccessTable.{access_entry, access_table};
 ghost use Rattle.access_table.specs.Lines as spec;
 
 // What a column of table 2-3 says of a mode.
-#[derive(Drop)]
+#[derive(Clone, Copy)]
 pub enum Permission {
     NoAccess,
     ReadOnly,

@@ -13,7 +13,7 @@ use values::Cp15;
 const DEPARTED: u64 = 0x20000000D;
 
 // What replayed lines leave beside the lent lists.
-#[derive(Drop)]
+#[derive(Clone, Copy)]
 pub struct Batch {
     pub state: State,
     pub cp15: Cp15,

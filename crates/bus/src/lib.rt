@@ -93,7 +93,7 @@ fn line_good(memory: &[u8], bad: &[u8], at: PhysicalAddress) -> bool
 }
 
 // One descriptor word, or that it aborts.
-#[derive(Drop)]
+#[derive(Clone, Copy)]
 pub enum Descriptor {
     Word(u32),
     Outside,
@@ -111,7 +111,7 @@ fn descriptor_at(memory: &[u8], bad: &[u8], at: PhysicalAddress) -> Descriptor
 }
 
 // The reader over the lent memory: it holds the slices of memory and map.
-#[derive(Drop)]
+#[derive(Clone, Copy)]
 pub struct Bus<'a> {
     pub memory: &'a [u8],
     pub bad: &'a [u8],

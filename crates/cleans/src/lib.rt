@@ -96,7 +96,7 @@ fn cleaned_word(w: u64) -> u64
 }
 
 // How many entries the buffer then has, and how many halves were sent out.
-#[derive(Drop)]
+#[derive(Clone, Copy)]
 pub struct Sent {
     pub used: usize,
     pub halves: Count,

@@ -27,7 +27,7 @@ pub const OPEN: u32 = 1;
 pub const DEPARTS: u32 = 2;
 
 // A number, and the place behind its digits; or one above that of any field, and the place of the digit that makes it so.
-#[derive(Drop)]
+#[derive(Clone, Copy)]
 pub struct Number {
     pub value: u64,
     pub end: usize,
@@ -66,7 +66,7 @@ fn read_number(text: &[u8], from: usize) -> Number
 }
 
 // A field, and how many bytes it has with the byte behind it; all zeros for none.
-#[derive(Drop)]
+#[derive(Clone, Copy)]
 pub struct Field {
     pub value: u32,
     pub size: usize,
@@ -181,7 +181,7 @@ fn verdict(text: &[u8], from: usize, ends: bool) -> u32
 }
 
 // How many lines were read, the place behind them, and what comes there.
-#[derive(Drop)]
+#[derive(Clone, Copy)]
 pub struct Parsed {
     pub made: usize,
     pub end: usize,

@@ -12,7 +12,7 @@ use walk::Mapping;
 
 // What a run of the plain machine leaves: the five registers, the count of calls, the calls made, and refusal 1 or 0.
 #[repr(C)]
-#[derive(Drop)]
+#[derive(Clone, Copy)]
 pub struct PlainRan {
     pub registers: Registers,
     pub calls: Count,

@@ -29,7 +29,7 @@ pub extern "C" fn sa110_start(
 }
 
 // What a call leaves beside the lent bytes, its answer as one number.
-#[derive(Drop)]
+#[derive(Clone, Copy)]
 pub struct Answered {
     pub state: State,
     pub cp15: Cp15,

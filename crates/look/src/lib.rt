@@ -15,7 +15,7 @@ use values::{Cp15, PhysicalAddress, Registers, Search, VirtualAddress};
 use walk::Mapping;
 
 // What a look shows: line i of the cache store, line i of memory, or an empty part.
-#[derive(Drop)]
+#[derive(Clone, Copy)]
 pub enum Part {
     OfStore(usize),
     OfMemory(usize),

@@ -13,7 +13,7 @@ ghost use Rattle.machine.specs.Scalars as spec;
 use values::{Answer, Count, Counts, Cp15, Registers};
 
 // The parts of the state that are no list: the record, the counts, the number of buffer entries.
-#[derive(Drop)]
+#[derive(Clone, Copy)]
 pub struct Scalars {
     pub cp15: Cp15,
     pub counts: Counts,
@@ -21,7 +21,7 @@ pub struct Scalars {
 }
 
 // The scalars and an answer.
-#[derive(Drop)]
+#[derive(Clone, Copy)]
 pub struct Outcome {
     pub scalars: Scalars,
     pub answer: Answer,

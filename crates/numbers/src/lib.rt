@@ -340,7 +340,7 @@ pub fn put_all(
 }
 
 // What a state has that is no list, and the record.
-#[derive(Drop)]
+#[derive(Clone, Copy)]
 pub struct Head {
     pub cp15: Cp15,
     pub size: usize,
@@ -379,7 +379,7 @@ fn read_head(numbers: &[u32], pointers: &mut [u32]) -> Head
 }
 
 // What the numbers of the first line are of; `fits` is false only where a number does not fit, or an entry or a line is not as in a sound state.
-#[derive(Drop)]
+#[derive(Clone, Copy)]
 pub struct Restored {
     pub head: Head,
     pub fits: bool,

@@ -19,14 +19,14 @@ use values::{
 };
 
 // The plain machine but for its memory: the five registers and the count of calls.
-#[derive(Drop)]
+#[derive(Clone, Copy)]
 pub struct PlainState {
     pub registers: Registers,
     pub calls: Count,
 }
 
 // A state and an answer.
-#[derive(Drop)]
+#[derive(Clone, Copy)]
 pub struct Outcome {
     pub state: PlainState,
     pub answer: Answer,
@@ -265,7 +265,7 @@ fn step(
 }
 
 // What a run leaves beside the lent lists: the state, how many calls were made, and refusal 1 or 0.
-#[derive(Drop)]
+#[derive(Clone, Copy)]
 pub struct Ran {
     pub state: PlainState,
     pub made: usize,

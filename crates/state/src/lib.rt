@@ -13,7 +13,7 @@ use values::{Counts, Cp15};
 
 // The sixteen bytes of a place of the write buffer.
 #[repr(C)]
-#[derive(Drop)]
+#[derive(Clone, Copy)]
 pub struct SlotBytes {
     pub bytes: [u8; 16],
 }

@@ -221,7 +221,7 @@ fn step_at(
 }
 
 // The scalars after a run, and how many calls were made.
-#[derive(Drop)]
+#[derive(Clone, Copy)]
 pub struct Folded {
     pub scalars: Scalars,
     pub made: usize,

@@ -65,7 +65,7 @@ fn key(w: u64) -> u64
 }
 
 // The keys of the section, the large page and the small page that an address lies in.
-#[derive(Drop)]
+#[derive(Clone, Copy)]
 pub struct Keys {
     pub section: u64,
     pub large: u64,

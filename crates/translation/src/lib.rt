@@ -20,7 +20,7 @@ use values::{
 use walk::Mapping;
 
 // How an address is translated: flat, by a TLB entry, by a walk that found a mapping, or by a walk that failed with this status and domain.
-#[derive(Drop)]
+#[derive(Clone, Copy)]
 pub enum Translation {
     Flat,
     Held(Entry),
@@ -29,7 +29,7 @@ pub enum Translation {
 }
 
 // Where an access whose translation and rights pass goes, and what the page says of it. `page` is false for a section and for flat.
-#[derive(Drop)]
+#[derive(Clone, Copy)]
 pub struct Place {
     pub address: PhysicalAddress,
     pub page: bool,
@@ -39,14 +39,14 @@ pub struct Place {
 }
 
 // Whether alignment, translation and rights pass; if not, the fault's status and domain.
-#[derive(Drop)]
+#[derive(Clone, Copy)]
 pub enum Checked {
     Passed(Place),
     Denied(Status, u32),
 }
 
 // What is decided of an access before anything changes: which mapping serves, and whether alignment, translation and rights pass.
-#[derive(Drop)]
+#[derive(Clone, Copy)]
 pub struct Decision {
     pub mapping: Translation,
     pub checked: Checked,
@@ -182,7 +182,7 @@ fn check_by(table: &[u8; 256], r: Registers, a: Access, e: Entry) -> Checked
 }
 
 // What a translation maps an address by: nothing, an entry, or a fault.
-#[derive(Drop)]
+#[derive(Clone, Copy)]
 pub enum Mapped {
     Flat,
     By(Entry),

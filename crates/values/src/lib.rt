@@ -10,15 +10,15 @@ ghost use Rattle.values.specs.Registers.{registers_from, zero_registers, cp15_fr
 ghost use Rattle.values.specs.Counts.{counts_from, zero_counts};
 
 // A virtual address, 32 bits.
-#[derive(Drop)]
+#[derive(Clone, Copy)]
 pub struct VirtualAddress(pub u32);
 
 // A physical address, 32 bits. Only translation and the flat rule make one of a virtual address.
-#[derive(Drop)]
+#[derive(Clone, Copy)]
 pub struct PhysicalAddress(pub u32);
 
 // The status of a fault; `status_of` gives its number. The second of each pair is for pages.
-#[derive(Drop)]
+#[derive(Clone, Copy)]
 pub enum Status {
     Alignment,
     WalkFirst,
@@ -36,7 +36,7 @@ pub enum Status {
 }
 
 // A fault: its status, its domain, and the virtual address given.
-#[derive(Drop)]
+#[derive(Clone, Copy)]
 pub struct Fault {
     pub status: Status,
     pub domain: u32,
@@ -44,7 +44,7 @@ pub struct Fault {
 }
 
 // What a call answers: a value, a signed value, a fault, or the number of its refusal.
-#[derive(Drop)]
+#[derive(Clone, Copy)]
 pub enum Answer {
     Value(u32),
     Signed(i32),
@@ -54,7 +54,7 @@ pub enum Answer {
 
 // The plain five registers: 1 control, 2 table base, 3 domain values, 5 FSR, 6 FAR.
 #[repr(C)]
-#[derive(Drop)]
+#[derive(Clone, Copy)]
 pub struct Registers {
     pub control: u32,
     pub base: u32,
@@ -65,7 +65,7 @@ pub struct Registers {
 
 // The small record: the plain five registers and the TLB pointer.
 #[repr(C)]
-#[derive(Drop)]
+#[derive(Clone, Copy)]
 pub struct Cp15 {
     pub registers: Registers,
     pub pointer: u32,
@@ -78,7 +78,7 @@ pub const COUNT_LIMIT: Count = 0xFFFFFFFF;
 
 // The five counts: calls, TLB misses, Dcache hits, line fills, halves sent out.
 #[repr(C)]
-#[derive(Drop)]
+#[derive(Clone, Copy)]
 pub struct Counts {
     pub calls: Count,
     pub misses: Count,
@@ -88,7 +88,7 @@ pub struct Counts {
 }
 
 // What an access does; a store and a swap carry the value that they store.
-#[derive(Drop)]
+#[derive(Clone, Copy)]
 pub enum Kind {
     Load,
     SignedLoad,
@@ -97,7 +97,7 @@ pub enum Kind {
 }
 
 // A data access: what it does, its mode, its width in bytes, its virtual address.
-#[derive(Drop)]
+#[derive(Clone, Copy)]
 pub struct Access {
     pub kind: Kind,
     pub privileged: bool,
@@ -106,7 +106,7 @@ pub struct Access {
 }
 
 // A CP15 call: its mode, the register, and opcode 2 and CRm, which only writes of registers 7 and 8 heed.
-#[derive(Drop)]
+#[derive(Clone, Copy)]
 pub struct Transfer {
     pub privileged: bool,
     pub register: u32,
@@ -115,7 +115,7 @@ pub struct Transfer {
 }
 
 // A call of the library. A CP15 write carries its value.
-#[derive(Drop)]
+#[derive(Clone, Copy)]
 pub enum Call {
     Access(Access),
     Read(Transfer),
@@ -123,7 +123,7 @@ pub enum Call {
 }
 
 // A TLB entry: size 0 section, 1 large page, 2 small page; AP0 to AP3 in `aps`, two bits each, AP0 lowest.
-#[derive(Drop)]
+#[derive(Clone, Copy)]
 pub struct Entry {
     pub valid: bool,
     pub size: u32,
@@ -136,7 +136,7 @@ pub struct Entry {
 }
 
 // A Dcache line: its virtual tag, its physical line number, and a dirty bit for each half.
-#[derive(Drop)]
+#[derive(Clone, Copy)]
 pub struct Line {
     pub valid: bool,
     pub tag: u32,
@@ -146,7 +146,7 @@ pub struct Line {
 }
 
 // A write buffer entry: its block number, its 16-bit mask, its bytes.
-#[derive(Drop)]
+#[derive(Clone, Copy)]
 pub struct Slot {
     pub block: u32,
     pub mask: u32,
@@ -154,7 +154,7 @@ pub struct Slot {
 }
 
 // Where a search found its match, or that it found none.
-#[derive(Drop)]
+#[derive(Clone, Copy)]
 pub enum Search {
     At(usize),
     Nothing,

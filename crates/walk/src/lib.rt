@@ -12,7 +12,7 @@ use bus::Descriptor;
 use values::{Entry, PhysicalAddress, Status, VirtualAddress};
 
 // What a walk finds: a mapping, as the TLB would hold it, or the status and the domain of its fault.
-#[derive(Drop)]
+#[derive(Clone, Copy)]
 pub enum Mapping {
     Found(Entry),
     Failed(Status, u32),
