@@ -1,0 +1,10 @@
+use Prim.Native.Nat.{◌-◌}
+use native.Mathlib.Omega.{arith}
+use Rattle.printed.proofs.Decimal.{Counting, counting_start, counting_low, counting_fits, counting_on, counting_end}
+use Rattle.printed.proofs.digits.Given as goal
+
+abbrev pub invariant-loop-power : goal.invariant-loop-power
+invariant-loop-power l = Counting l.n l.k l.power
+
+abbrev pub decreases-loop-power : goal.decreases-loop-power
+decreases-loop-power l = 19 - l.k
