@@ -1,0 +1,11 @@
+use borrow.Author.Rules.{rules}
+use Prim.Native.Nat.{◌-◌}
+use mathlib.Core.Path.{◌∙◌}
+use Rattle.fields.proofs.Parsing.{Parsing, parsing_start, parsing_end, parsing_stop, parsing_on}
+use Rattle.fields.proofs.parse.Given as goal
+
+abbrev pub invariant-loop-k : goal.invariant-loop-k
+invariant-loop-k l = Parsing l.ends l.n l.text l.initial.calls l.calls l.at l.k
+
+abbrev pub decreases-loop-k : goal.decreases-loop-k
+decreases-loop-k l = l.n - l.k

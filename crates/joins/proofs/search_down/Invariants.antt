@@ -1,0 +1,17 @@
+use Rattle.buffer.specs.Buffer.{newest_of}
+use Rattle.buffer.specs.Packing.{slots_of}
+use Rattle.buffer.proofs.NewestOf.{newest_hit, newest_on, newest_none}
+use mathlib.Core.Path.{◌≡◌, refl, sym, ◌∙◌}
+use native.Mathlib.Omega.{arith}
+use Prim.Native.Nat.{ℕ, ◌≤◌}
+use lib.ListN.{length}
+use mathlib.Core.List.{List}
+use borrow.Author.Rules.{rules}
+use Rattle.joins.proofs.search_down.Given as goal
+
+abbrev pub invariant-loop-n : goal.invariant-loop-n
+invariant-loop-n l = (l.n ≤ l.used) × ((bytes : List (List ℕ)) → length bytes ≡ 8 →
+    newest_of (slots_of l.words bytes) l.block l.n ≡ newest_of (slots_of l.words bytes) l.block l.used)
+
+abbrev pub decreases-loop-n : goal.decreases-loop-n
+decreases-loop-n l = l.n
