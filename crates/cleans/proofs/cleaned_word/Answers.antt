@@ -1,0 +1,6 @@
+use Rattle.cache.proofs.Lines.{clean_word}
+use borrow.Author.Rules.{rules}
+use Rattle.cleans.proofs.cleaned_word.Goals as goal
+
+pub returns : goal.returns
+returns c = clean_word c.args.w

@@ -1,0 +1,6 @@
+use Rattle.cache.proofs.Lines.{fresh_word}
+use borrow.Author.Rules.{rules}
+use Rattle.fills.proofs.line_word.Goals as goal
+
+pub returns : goal.returns
+returns c = fresh_word c.args.tag c.args.frame c.requires

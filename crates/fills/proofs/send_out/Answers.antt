@@ -1,0 +1,6 @@
+use borrow.Author.Rules.{rules}
+use Rattle.fills.proofs.send_out.Goals as goal
+
+pub returns : goal.returns
+returns c =
+    rw (← c.send_halves-n.ensures.same) c.ready_line.ensures

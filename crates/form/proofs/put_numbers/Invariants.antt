@@ -1,0 +1,13 @@
+use Prim.Native.Nat.{◌-◌}
+use lib.ListN.{length}
+use borrow.Author.Rules.{rules}
+use native.Mathlib.Omega.{arith}
+use Rattle.form.specs.Code.{places_of}
+use Rattle.form.proofs.Putting.{Putting, putting_start, putting_room, putting_byte, putting_on, putting_end}
+use Rattle.form.proofs.put_numbers.Given as goal
+
+abbrev pub invariant-loop-k : goal.invariant-loop-k
+invariant-loop-k l = Putting (places_of l.separators) l.numbers l.initial.out l.out l.at l.k
+
+abbrev pub decreases-loop-k : goal.decreases-loop-k
+decreases-loop-k l = length l.numbers - l.k

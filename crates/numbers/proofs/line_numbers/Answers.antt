@@ -1,0 +1,6 @@
+use Rattle.numbers.proofs.Lines.{line_listed}
+use borrow.Author.Rules.{rules}
+use Rattle.numbers.proofs.line_numbers.Goals as goal
+
+pub returns : goal.returns
+returns c = line_listed c.args.w

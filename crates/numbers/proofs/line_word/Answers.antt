@@ -1,0 +1,8 @@
+use mathlib.Core.Path.{refl}
+use Rattle.numbers.proofs.Lines.{line_packs}
+use borrow.Author.Rules.{rules}
+use Rattle.numbers.proofs.line_word.Goals as goal
+
+pub returns : goal.returns
+returns c = let a = c.args in
+    line_packs a.tag a.frame a.valid a.low a.high _ refl

@@ -1,0 +1,14 @@
+use borrow.Author.Rules.{rules}
+use native.Mathlib.Omega.{arith}
+use mathlib.Core.Path.{◌≡◌, subst}
+use Prim.Native.Nat.{ℕ, ◌-◌, ◌≤◌}
+use lib.ListN.{replicate}
+use Rattle.values.proofs.Toward.{Toward, toward_start}
+use Rattle.numbers.proofs.Slots.{low_cells, low_step, low_filled}
+use Rattle.numbers.proofs.slot_bytes.Given as goal
+
+abbrev pub invariant-loop-i : goal.invariant-loop-i
+invariant-loop-i l = (l.i ≤ 16) × Toward (low_cells l.numbers l.at) (replicate 16 0) l.out l.i
+
+abbrev pub decreases-loop-i : goal.decreases-loop-i
+decreases-loop-i l = 16 - l.i

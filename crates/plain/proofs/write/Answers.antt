@@ -1,0 +1,7 @@
+use Rattle.plain.specs.Plain.{plain_write}
+use borrow.Author.Rules.{rules}
+use Rattle.plain.proofs.write.Goals as goal
+
+pub returns : goal.returns
+unfolding plain_write
+returns c = λ m bad. rw c.written-after.ensures

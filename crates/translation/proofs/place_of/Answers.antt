@@ -1,0 +1,5 @@
+use borrow.Author.Rules.{rules}
+use Rattle.translation.proofs.place_of.Goals as goal
+
+pub returns : goal.returns
+returns c = rw c.translated.ensures
