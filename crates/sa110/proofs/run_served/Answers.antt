@@ -36,7 +36,7 @@ run_calls-f-requires c =
     let ps : length s.pointers ≡ 16 = search (rules, good) in
     let ws : length s.words ≡ 8 = search (rules, good) in
     let bs = c.unpacked-bytes.result in
-    let z = c.unpacked-bytes.type-inv in
+    let z = c.unpacked-bytes.type_inv in
     let h = serves_of a.memory.now a.bad.now a.store.now s a.cp15 bs c.unpacked-bytes.ensures c.requires.0 e ls ps ws
     z.1.0.1
     (rows_of bs z.0 z.1.1) (λ i h. omega (arith, c.slice_known-1.given i)) (λ i h. omega (arith, c.slice_known-2-1.given i)) in

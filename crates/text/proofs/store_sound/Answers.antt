@@ -1,5 +1,3 @@
-use lib.ListN.{length-map}
-use borrow.Author.Rules.{rules}
 use mathlib.Core.Path.{◌≡◌, refl, sym, ◌∙◌, ap}
 use Prim.Native.Nat.{ℕ}
 use lib.ListN.{length}
@@ -14,11 +12,11 @@ pub put_all-requires : goal.put_all-requires
 put_all-requires c = let good = c.well_formed.0 in
     let s = c.args.state in
     let e : length s.entries ≡ 32 = search (rules, good) in
-    let ls : length s.lines ≡ 512 = sym (length-map s.lines (λ (w : ℕ). w)) ∙ good.1.1.1.1.1.1.0.1.0.1 in
-    let ps : length s.pointers ≡ 16 = sym (length-map s.pointers (λ (w : ℕ). w)) ∙ good.1.1.1.1.1.1.1.0.1.0.1 in
-    let ws : length s.words ≡ 8 = sym (length-map s.words (λ (w : ℕ). w)) ∙ good.1.1.1.1.1.1.1.1.0.1.0.1 in (
+    let ls : length s.lines ≡ 512 = search (rules, good) in
+    let ps : length s.pointers ≡ 16 = search (rules, good) in
+    let ws : length s.words ≡ 8 = search (rules, good) in (
       refl,
-      record { entries_long = e; lines_long = ls; pointers_long = ps; words_long = ws; bytes_long = c.unpacked-bytes.type-inv.1.0.1 },
+      record { entries_long = e; lines_long = ls; pointers_long = ps; words_long = ws; bytes_long = c.unpacked-bytes.type_inv.1.0.1 },
       c.requires.0,
       c.requires.1,
     )
