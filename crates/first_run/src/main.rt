@@ -186,7 +186,7 @@ fn print_answer(a: Answer) {
 }
 
 // What a run or a call leaves beside the lent bytes.
-#[derive(Drop)]
+#[derive(Clone, Copy)]
 struct Left {
     state: State,
     cp15: Cp15,

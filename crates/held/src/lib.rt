@@ -16,7 +16,7 @@ const LINES: u64 = 0x7FFFFFFFFFFFFFFF;
 
 // What is held between two parts. `taken` and `written` are what the last part took of its text and wrote into its slice.
 #[repr(C)]
-#[derive(Drop)]
+#[derive(Clone, Copy)]
 pub struct Replay {
     pub state: State,
     pub cp15: Cp15,
@@ -31,7 +31,7 @@ pub struct Replay {
 }
 
 // What a part or a start leaves beside the lent lists: the refusal is 3 of a part, 1 or 2 of a start, else 0.
-#[derive(Drop)]
+#[derive(Clone, Copy)]
 pub struct Part {
     pub replay: Replay,
     pub refusal: u32,

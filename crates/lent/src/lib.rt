@@ -19,7 +19,7 @@ pub extern "C" fn sa110_start(
     store: &[u8],
 ) -> u32
     ensures { (bad : List ℕ)
-        → started_of memory.now bad store.now (record { state = state.exit.now; cp15 = cp15.new; refusal = result })
+        → started_of memory.now bad store.now (record { state = state.new; cp15 = cp15.new; refusal = result })
         ≡ started memory.now bad store.now }
 {
     let r = sa110::start(memory, store);
@@ -80,8 +80,8 @@ pub extern "C" fn sa110_call(
     v: u32,
 ) -> u64
     ensures { coded.answered_of memory.new bad.now store.new
-        (record { state = state.exit.now; cp15 = cp15.new; code = result })
-        ≡ coded.called_by (machine_in memory.old bad.now store.old state.entry.now
+        (record { state = state.new; cp15 = cp15.new; code = result })
+        ≡ coded.called_by (machine_in memory.old bad.now store.old state.old
         cp15.old) kind privileged n a v }
 {
     let r = call_numbers(*state, *cp15, memory, bad, store, kind, privileged, n, a, v);
@@ -102,8 +102,8 @@ pub extern "C" fn sa110_run(
     answers: &mut [u64],
 ) -> usize
     ensures { ran_of memory.new bad.now store.new answers.new
-        (record { state = state.exit.now; cp15 = cp15.new; made = result })
-        ≡ runs.run (machine_in memory.old bad.now store.old state.entry.now cp15.old)
+        (record { state = state.new; cp15 = cp15.new; made = result })
+        ≡ runs.run (machine_in memory.old bad.now store.old state.old cp15.old)
         calls.now answers.old }
 {
     let r = sa110::run(*state, *cp15, memory, bad, store, calls, answers);

@@ -18,8 +18,8 @@ pub extern "C" fn sa110_replay(
     ends: u32,
     out: &mut [u8],
 ) -> u32
-    ensures { parted_of memory.new bad.now store.new out.new (record { replay = replay.exit.now; refusal = result })
-        ≡ part (flag ends) (held_of memory.old bad.now store.old replay.entry.now) text.now
+    ensures { parted_of memory.new bad.now store.new out.new (record { replay = replay.new; refusal = result })
+        ≡ part (flag ends) (held_of memory.old bad.now store.old replay.old) text.now
         out.old }
 {
     let r = replay::replay_part(*replay, memory, bad, store, text, ends, out);

@@ -7,7 +7,7 @@ use libc::{STDERR_FILENO, STDIN_FILENO, STDOUT_FILENO};
 use replay::Replay;
 
 // What is replayed, and whether to go on.
-#[derive(Drop)]
+#[derive(Clone, Copy)]
 struct Going {
     replay: Replay,
     goes: bool,

@@ -13,7 +13,7 @@ pub use state::{SlotBytes, Started, State, is_sound, start};
 use values::{Answer, Call, Cp15};
 
 // What a call leaves beside the lent bytes.
-#[derive(Drop)]
+#[derive(Clone, Copy)]
 pub struct Called {
     pub state: State,
     pub cp15: Cp15,
@@ -101,7 +101,7 @@ pub fn call(
 }
 
 // What a run leaves beside the lent lists.
-#[derive(Drop)]
+#[derive(Clone, Copy)]
 pub struct Ran {
     pub state: State,
     pub cp15: Cp15,

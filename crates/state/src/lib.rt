@@ -20,7 +20,7 @@ pub struct SlotBytes {
 
 // The state: the memory's length at the start, the counts, the number of buffer entries, and the words of TLB, Dcache and write buffer.
 #[repr(C)]
-#[derive(Drop)]
+#[derive(Clone, Copy)]
 pub struct State {
     pub size: usize,
     pub counts: Counts,
@@ -99,7 +99,7 @@ pub fn state_refusal(state: State, cp15: Cp15, memory: &[u8], bad: &[u8], store:
 }
 
 // What a start leaves: a fresh state and a record of zeros, and refusal 1 or 2, or 0.
-#[derive(Drop)]
+#[derive(Clone, Copy)]
 pub struct Started {
     pub state: State,
     pub cp15: Cp15,

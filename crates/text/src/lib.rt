@@ -98,7 +98,7 @@ fn refused(n: u32) -> Started
 }
 
 // The state and the record of numbers; `fits` is false only where a number does not fit, or an entry or a line is not as in a sound state.
-#[derive(Drop)]
+#[derive(Clone, Copy)]
 pub struct Restored {
     pub state: State,
     pub cp15: Cp15,

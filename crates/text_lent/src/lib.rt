@@ -39,7 +39,7 @@ pub extern "C" fn sa110_read_text(
     memory: &[u8],
     text: &[u8],
 ) -> u32
-    ensures { (bad store : List ℕ) → started_of memory.now bad store (record { state = state.exit.now; cp15 = cp15.new; refusal = result })
+    ensures { (bad store : List ℕ) → started_of memory.now bad store (record { state = state.new; cp15 = cp15.new; refusal = result })
         ≡ read_back memory.now bad store text.now }
 {
     let r = text::read(memory, text);
