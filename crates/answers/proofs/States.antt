@@ -22,18 +22,6 @@ use Rattle.sa110.proofs.Shapes.{Row, rows_of, formed_of, lists_in, scalars_in}
 use Rattle.state.specs.contracts.SlotBytes as slot
 use Rattle.state.specs.contracts.State as state
 
--- what an array of mapped elements tells of the elements
-each_mapped : {A B : Type 0} (g : A → B) (f : B → List Val → Fml) (xs : List A) (us : List Val) → shadow (each B f (map g xs) us)
-    → shadow (each A (λ x. f (g x)) xs us)
-each_mapped g f [] [] p = p
-each_mapped g f [] (u ∷ us) p = p
-each_mapped g f (x ∷ xs) [] p = p
-each_mapped g f (x ∷ xs) (u ∷ us) p = (p.0, each_mapped g f xs us p.1)
-
--- the length of an array of mapped elements
-length_mapped : {A B : Type 0} (g : A → B) (xs : List A) (n : ℕ) → length (map g xs) ≡ n → length xs ≡ n
-length_mapped g xs n h = sym (length-map xs g) ∙ h
-
 -- the bytes of each place of an array of places are a row; behind its end zeros stand for them
 pub slot_rows : (xs : List SlotBytes) (us : List Val) → shadow (each SlotBytes (slot.the_row).own_val xs us) → (i : ℕ)
     → Row (get_or (bytes_of xs) i (replicate 16 0))
@@ -41,8 +29,8 @@ slot_rows [] us p i = rows_of [] [] tt i
 slot_rows (x ∷ xs) [] p i = absurd p
 slot_rows (x ∷ xs) (u ∷ us) p zero =
     let q = p.0.1.1.0 in
-    let e = length_mapped (λ (b : ℕ). b) x.bytes 16 q.1.0.1 in
-    let bytes = each_mapped (λ (b : ℕ). b) (UInt w8).own_val x.bytes q.0 q.1.1 in
+    let e : length x.bytes ≡ 16 = q.1.0.1 in
+    let bytes = q.1.1 in
     rows_of (x.bytes ∷ []) (array_val q.0 ∷ []) ((q.0, ((refl, e), bytes)), tt) 0
 slot_rows (x ∷ xs) (u ∷ us) p (suc i) = slot_rows xs us p.1 i
 
@@ -66,9 +54,9 @@ module _ (memory bad store : List ℕ) (s : State) (r : Cp15) where
       let words = p.1.1.1.1.1.1.1.1.0 in
       let slots = p.1.1.1.1.1.1.1.1.1.0 in
       formed_in
-      (length_mapped (λ (w : ℕ). w) s.entries 32 entries.1.0.1)
-      (length_mapped (λ (w : ℕ). w) s.lines 512 lines.1.0.1)
-      (length_mapped (λ (w : ℕ). w) s.pointers 16 pointers.1.0.1)
-      (length_mapped (λ (w : ℕ). w) s.words 8 words.1.0.1)
-      (length_mapped (slot.the_type).to s.slots 8 slots.1.0.1)
-      (slot_rows s.slots slots.0 (each_mapped (slot.the_type).to _ s.slots slots.0 slots.1.1))
+      entries.1.0.1
+      lines.1.0.1
+      pointers.1.0.1
+      words.1.0.1
+      slots.1.0.1
+      (slot_rows s.slots slots.0 slots.1.1)
