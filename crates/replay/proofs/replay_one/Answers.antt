@@ -14,21 +14,21 @@ use Rattle.replay.proofs.replay_one.Goals as goal
 
 pub slice_bounds-join-end : goal.slice_bounds-join-end
 slice_bounds-join-end c = let r = c.args.replay in
-    let long : length r.begun ≡ 64 = sym (length-map r.begun (λ (b : ℕ). b)) ∙ c.well_formed.0.1.1.1.1.1.1.1.1.0.1.0.1 in
+    let long : length r.begun ≡ 64 = c.well_formed.0.1.1.1.1.1.1.1.1.0.1.0.1 in
     sym long
 
 pub join-taken-requires : goal.join-taken-requires
 join-taken-requires c = let a = c.args in
     let r = a.replay in
     let k = kept_means r.lines r.held r.waiting r.begun c.requires in
-    let long : length r.begun ≡ 64 = sym (length-map r.begun (λ (b : ℕ). b)) ∙ c.well_formed.0.1.1.1.1.1.1.1.1.0.1.0.1 in
+    let long : length r.begun ≡ 64 = c.well_formed.0.1.1.1.1.1.1.1.1.0.1.0.1 in
     (long, k.held_low)
 
 pub slice_bounds-whole-end : goal.slice_bounds-whole-end
 slice_bounds-whole-end c = let a = c.args in
     let r = a.replay in
     let k = kept_means r.lines r.held r.waiting r.begun c.requires in
-    let long : length r.begun ≡ 64 = sym (length-map r.begun (λ (b : ℕ). b)) ∙ c.well_formed.0.1.1.1.1.1.1.1.1.0.1.0.1 in
+    let long : length r.begun ≡ 64 = c.well_formed.0.1.1.1.1.1.1.1.1.0.1.0.1 in
     let j = c.join-taken in
     let same : length j.new.line ≡ 64 = j.auto.line ∙ long in
     let low = j.ensures.2 in
@@ -38,14 +38,14 @@ pub replay_lines-b-requires : goal.replay_lines-b-requires
 replay_lines-b-requires c = let a = c.args in
     let r = a.replay in
     let k = kept_means r.lines r.held r.waiting r.begun c.requires in
-    let long : length r.begun ≡ 64 = sym (length-map r.begun (λ (b : ℕ). b)) ∙ c.well_formed.0.1.1.1.1.1.1.1.1.0.1.0.1 in
+    let long : length r.begun ≡ 64 = c.well_formed.0.1.1.1.1.1.1.1.1.0.1.0.1 in
     (search rules, search rules, k.lines_low)
 
 pub settled-after-requires : goal.settled-after-requires
 settled-after-requires c = let a = c.args in
     let r = a.replay in
     let k = kept_means r.lines r.held r.waiting r.begun c.requires in
-    let long : length r.begun ≡ 64 = sym (length-map r.begun (λ (b : ℕ). b)) ∙ c.well_formed.0.1.1.1.1.1.1.1.1.0.1.0.1 in
+    let long : length r.begun ≡ 64 = c.well_formed.0.1.1.1.1.1.1.1.1.0.1.0.1 in
     let b = c.replay_lines-b.ensures in
     let j = c.join-taken in
     let last = c.is_last-last.result in
@@ -65,7 +65,7 @@ pub returns : goal.returns
 returns c = let a = c.args in
     let r = a.replay in
     let k = kept_means r.lines r.held r.waiting r.begun c.requires in
-    let long : length r.begun ≡ 64 = sym (length-map r.begun (λ (b : ℕ). b)) ∙ c.well_formed.0.1.1.1.1.1.1.1.1.0.1.0.1 in
+    let long : length r.begun ≡ 64 = c.well_formed.0.1.1.1.1.1.1.1.1.0.1.0.1 in
     let b = c.replay_lines-b in
     let j = c.join-taken in
     let p = c.put_out in

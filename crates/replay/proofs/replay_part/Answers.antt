@@ -13,14 +13,14 @@ pub slice_bounds-put_out-end : goal.slice_bounds-put_out-end
 slice_bounds-put_out-end c = let a = c.args in
     let r = a.replay in
     let h = held_of a.memory.now a.bad.now a.store.now r in
-    let long : length r.pending ≡ 64 = sym (length-map r.pending (λ (b : ℕ). b)) ∙ c.well_formed.0.1.1.1.1.1.1.1.1.1.0.1.0.1 in
+    let long : length r.pending ≡ 64 = c.well_formed.0.1.1.1.1.1.1.1.1.1.0.1.0.1 in
     sym long
 
 pub put_out-requires : goal.put_out-requires
 put_out-requires c = let a = c.args in
     let r = a.replay in
     let h = held_of a.memory.now a.bad.now a.store.now r in
-    let long : length r.pending ≡ 64 = sym (length-map r.pending (λ (b : ℕ). b)) ∙ c.well_formed.0.1.1.1.1.1.1.1.1.1.0.1.0.1 in
+    let long : length r.pending ≡ 64 = c.well_formed.0.1.1.1.1.1.1.1.1.1.0.1.0.1 in
     let t = sym c.is_kept.ensures ∙ c.if-is_kept.true in
     let k = kept_means r.lines r.held r.waiting r.begun t in
     let low = k.waiting_low in
