@@ -1,0 +1,6 @@
+use borrow.Author.Rules.{rules}
+use borrow.Author.Rules.{rules}
+use Rattle.replay.proofs.is_last.Goals as goal
+
+pub returns-then-ends : goal.returns-then-ends
+returns-then-ends c = rw c.if-ends.true
