@@ -5,6 +5,8 @@
 ghost use Rattle.std.specs.Prelude.{◌≡◌, ◌<◌, length};
 
 use sa110::State;
+use std::io;
+use std::io::{Stdout, Write};
 use values::{Answer, Counts, Cp15, Fault, VirtualAddress};
 
 // How many calls there are.
@@ -32,8 +34,8 @@ const CALLS: [u32; 85] = [
     4, 1, 1, 0, 5, // write register 1: Dcache without write buffer
 ];
 
-fn print(text: &[u8]) {
-    io::write_all(1, text);
+fn print(mut out: Stdout, text: &[u8]) -> io::Result<()> {
+    out.write_all(text)
 }
 
 fn digit(n: u32) -> u8
@@ -47,7 +49,7 @@ fn digit(n: u32) -> u8
 }
 
 // A number in eight hexadecimal digits.
-fn print_hex(n: u32) {
+fn print_hex(to: Stdout, n: u32) -> io::Result<()> {
     let out = [
         digit(n / 0x10000000),
         digit(n / 0x1000000 % 16),
@@ -58,131 +60,133 @@ fn print_hex(n: u32) {
         digit(n / 0x10 % 16),
         digit(n % 16),
     ];
-    print(&out);
+    print(to, &out)
 }
 
 // A byte in two hexadecimal digits.
-fn print_byte(b: u8) {
+fn print_byte(to: Stdout, b: u8) -> io::Result<()> {
     let out = [digit(b as u32 / 16), digit(b as u32 % 16)];
-    print(&out);
+    print(to, &out)
 }
 
 // A number below 100 in two decimal digits.
-fn print_two(n: u32)
+fn print_two(to: Stdout, n: u32) -> io::Result<()>
     requires { n < 100 }
 {
     let out = [digit(n / 10), digit(n % 10)];
-    print(&out);
+    print(to, &out)
 }
 
 // A call in words.
-fn print_call(kind: u32, privileged: u32, n: u32, a: u32, v: u32) {
+fn print_call(to: Stdout, kind: u32, privileged: u32, n: u32, a: u32, v: u32) -> io::Result<()> {
     if privileged == 1 {
-        print(b"privileged ");
+        print(to, b"privileged ")?;
     } else {
-        print(b"user       ");
+        print(to, b"user       ")?;
     }
     if kind == 3 {
-        print(b"read   register ");
-        print_two(n % 100);
-        print(b"               ");
-        return;
+        print(to, b"read   register ")?;
+        print_two(to, n % 100)?;
+        print(to, b"               ")?;
+        return Ok(());
     }
     if kind == 4 {
-        print(b"write  register ");
-        print_two(n % 100);
-        print(b" = ");
-        print_hex(v);
-        print(b"    ");
-        return;
+        print(to, b"write  register ")?;
+        print_two(to, n % 100)?;
+        print(to, b" = ")?;
+        print_hex(to, v)?;
+        print(to, b"    ")?;
+        return Ok(());
     }
-    print_access(kind, n, a, v);
+    print_access(to, kind, n, a, v)
 }
 
-fn print_access(kind: u32, width: u32, a: u32, v: u32) {
+fn print_access(to: Stdout, kind: u32, width: u32, a: u32, v: u32) -> io::Result<()> {
     if kind == 0 {
-        print(b"load   ");
+        print(to, b"load   ")?;
     }
     if kind == 1 {
-        print(b"signed ");
+        print(to, b"signed ")?;
     }
     if kind == 2 {
-        print(b"store  ");
+        print(to, b"store  ")?;
     }
-    print_two(width % 100);
-    print(b" at ");
-    print_hex(a);
+    print_two(to, width % 100)?;
+    print(to, b" at ")?;
+    print_hex(to, a)?;
     if kind == 2 {
-        print(b" = ");
-        print_hex(v);
-        print(b" ");
-        return;
+        print(to, b" = ")?;
+        print_hex(to, v)?;
+        print(to, b" ")?;
+        return Ok(());
     }
-    print(b"            ");
+    print(to, b"            ")
 }
 
 // An answer of a run: kind × 2^32 + value.
-fn print_code(code: u64) {
+fn print_code(to: Stdout, code: u64) -> io::Result<()> {
     let kind = code / trace::KIND_UNIT;
     let value = (code % trace::KIND_UNIT) as u32;
     if kind == 0 {
-        print(b"  value ");
-        print_hex(value);
-        print(b"\n");
-        return;
+        print(to, b"  value ")?;
+        print_hex(to, value)?;
+        print(to, b"\n")?;
+        return Ok(());
     }
     if kind == 1 {
-        print(b"  fault, status ");
-        print_two(value % 16);
-        print(b" domain ");
-        print_two(value / 16 % 100);
-        print(b"\n");
-        return;
+        print(to, b"  fault, status ")?;
+        print_two(to, value % 16)?;
+        print(to, b" domain ")?;
+        print_two(to, value / 16 % 100)?;
+        print(to, b"\n")?;
+        return Ok(());
     }
-    print(b"  refused by ");
-    print_two(value % 100);
-    print(b"\n");
+    print(to, b"  refused by ")?;
+    print_two(to, value % 100)?;
+    print(to, b"\n")
 }
 
 // A signed number: its sign, and its amount in hexadecimal digits.
-fn print_signed(z: i32) {
+fn print_signed(to: Stdout, z: i32) -> io::Result<()> {
     if z < 0 {
-        print(b"-");
-        print_hex(1 + ((!z) as u32));
+        print(to, b"-")?;
+        print_hex(to, 1 + ((!z) as u32))?;
     } else {
-        print(b"+");
-        print_hex(z as u32);
+        print(to, b"+")?;
+        print_hex(to, z as u32)?;
     }
+    Ok(())
 }
 
-fn print_fault(f: Fault) {
+fn print_fault(to: Stdout, f: Fault) -> io::Result<()> {
     let status = f.status;
     let address = f.address;
-    print(b"  fault, status ");
-    print_two(values::status_number(status));
-    print(b" domain ");
-    print_two(f.domain % 100);
-    print(b" address ");
-    print_hex(address.0);
+    print(to, b"  fault, status ")?;
+    print_two(to, values::status_number(status))?;
+    print(to, b" domain ")?;
+    print_two(to, f.domain % 100)?;
+    print(to, b" address ")?;
+    print_hex(to, address.0)
 }
 
 // An answer of a call.
-fn print_answer(a: Answer) {
+fn print_answer(to: Stdout, a: Answer) -> io::Result<()> {
     match a {
         Answer::Value(v) => {
-            print(b"  value ");
-            print_hex(v);
+            print(to, b"  value ")?;
+            print_hex(to, v)?;
         },
         Answer::Signed(z) => {
-            print(b"  signed ");
-            print_signed(z);
+            print(to, b"  signed ")?;
+            print_signed(to, z)?;
         },
-        Answer::Fault(f) => print_fault(f),
+        Answer::Fault(f) => print_fault(to, f)?,
         Answer::Refused(n) => {
-            print(b"  refused by ");
-            print_two(n % 100);
+            print(to, b"  refused by ")?;
+            print_two(to, n % 100)?;
         },
     }
+    Ok(())
 }
 
 // What a run or a call leaves beside the lent bytes.
@@ -194,6 +198,7 @@ struct Left {
 
 // Makes one call, and prints it with its answer.
 fn one_call(
+    to: Stdout,
     left: Left,
     memory: &mut [u8],
     bad: &[u8],
@@ -203,41 +208,49 @@ fn one_call(
     n: u32,
     a: u32,
     v: u32,
-) -> Left {
-    print_call(kind, privileged, n, a, v);
+) -> io::Result<Left> {
+    print_call(to, kind, privileged, n, a, v)?;
     let c = trace::call_of(kind, privileged, n, a, v);
     let called = sa110::call(left.state, left.cp15, memory, bad, store, c);
     let answer = called.answer;
-    print_answer(answer);
-    print(b"\n");
+    print_answer(to, answer)?;
+    print(to, b"\n")?;
     let state = called.state;
     let cp15 = called.cp15;
-    Left { state, cp15 }
+    Ok(Left { state, cp15 })
 }
 
 // The bytes of a part, in words of four, or that it is empty.
-fn print_part(part: &[u8]) {
+fn print_part(to: Stdout, part: &[u8]) -> io::Result<()> {
     if part.len() == 0 {
-        print(b" an empty part");
-        return;
+        print(to, b" an empty part")?;
+        return Ok(());
     }
     let mut i: usize = 0;
     while i < part.len() {
         if i % 4 == 0 {
-            print(b" ");
+            print(to, b" ")?;
         }
-        print_byte(part[i]);
+        print_byte(to, part[i])?;
         i += 1;
     }
+    Ok(())
 }
 
 // Looks at an address, and prints the part.
-fn print_look<'a>(left: Left, memory: &'a [u8], bad: &[u8], store: &'a [u8], a: u32) {
-    print(b"look at ");
-    print_hex(a);
+fn print_look<'a>(
+    to: Stdout,
+    left: Left,
+    memory: &'a [u8],
+    bad: &[u8],
+    store: &'a [u8],
+    a: u32,
+) -> io::Result<()> {
+    print(to, b"look at ")?;
+    print_hex(to, a)?;
     let part = sa110::look(left.state, left.cp15, memory, bad, store, VirtualAddress(a));
-    print_part(part);
-    print(b"\n");
+    print_part(to, part)?;
+    print(to, b"\n")
 }
 
 // The page tables: at 4004 a section at 100000 onto 0, at 4008 a second-level table at 8000 for 200000 on, and at 8000 a small page onto 9000
@@ -252,38 +265,40 @@ fn set_up(memory: &mut [u8])
 }
 
 // The calls with their answers, and where the plain machine answers something else.
-fn print_calls(calls: &[u32], answers: &[u64], others: &[u64])
+fn print_calls(to: Stdout, calls: &[u32], answers: &[u64], others: &[u64]) -> io::Result<()>
     requires { (length calls.now ≡ 85) × ((length answers.now ≡ 17) × (length others.now ≡ 17)) }
 {
     let mut i: usize = 0;
     while i < COUNT {
         print_call(
+            to,
             calls[i * 5],
             calls[i * 5 + 1],
             calls[i * 5 + 2],
             calls[i * 5 + 3],
             calls[i * 5 + 4],
-        );
-        print_code(answers[i]);
+        )?;
+        print_code(to, answers[i])?;
         if others[i] != answers[i] {
-            print(b"  the plain machine answers something else\n");
+            print(to, b"  the plain machine answers something else\n")?;
         }
         i += 1;
     }
+    Ok(())
 }
 
-fn print_counts(c: Counts) {
-    print(b"library: calls counted ");
-    print_two(c.calls % 100);
-    print(b", TLB misses ");
-    print_two(c.misses % 100);
-    print(b", Dcache hits ");
-    print_two(c.hits % 100);
-    print(b", line fills ");
-    print_two(c.fills % 100);
-    print(b", halves sent out ");
-    print_two(c.halves % 100);
-    print(b"\n");
+fn print_counts(to: Stdout, c: Counts) -> io::Result<()> {
+    print(to, b"library: calls counted ")?;
+    print_two(to, c.calls % 100)?;
+    print(to, b", TLB misses ")?;
+    print_two(to, c.misses % 100)?;
+    print(to, b", Dcache hits ")?;
+    print_two(to, c.hits % 100)?;
+    print(to, b", line fills ")?;
+    print_two(to, c.fills % 100)?;
+    print(to, b", halves sent out ")?;
+    print_two(to, c.halves % 100)?;
+    print(to, b"\n")
 }
 
 // The list of calls on the plain machine: how many calls it counts.
@@ -295,7 +310,8 @@ fn run_plain(bad: &[u8], calls: &[u32], answers: &mut [u64]) -> u32 {
     left.calls
 }
 
-fn main() {
+fn main(rt: HostRuntime) -> io::Result<()> {
+    let to = rt.stdout();
     let mut memory = [0u8; 65536];
     let mut bad = [0u8; 16384];
     let mut store = [0u8; 16384];
@@ -314,25 +330,92 @@ fn main() {
     );
     let mut others = [0u64; 17];
     let counted = run_plain(&bad, &calls, &mut others);
-    print_calls(&calls, &answers, &others);
+    print_calls(to, &calls, &answers, &others)?;
     let state = ran.state;
-    print_counts(state.counts);
-    print(b"plain machine: calls counted ");
-    print_two(counted % 100);
-    print(b"\n");
+    print_counts(to, state.counts)?;
+    print(to, b"plain machine: calls counted ")?;
+    print_two(to, counted % 100)?;
+    print(to, b"\n")?;
     // calls one by one, on what the run left
     let cp15 = ran.cp15;
     let start = Left { state, cp15 };
-    let first = one_call(start, &mut memory, &bad, &mut store, 1, 1, 1, 0x100013, 0);
-    let second = one_call(first, &mut memory, &bad, &mut store, 0, 1, 2, 0x200480, 0);
-    let third = one_call(second, &mut memory, &bad, &mut store, 0, 0, 4, 0x200480, 0);
-    let fourth = one_call(third, &mut memory, &bad, &mut store, 2, 1, 1, 0x100010, 256);
+    let first = one_call(
+        to,
+        start,
+        &mut memory,
+        &bad,
+        &mut store,
+        1,
+        1,
+        1,
+        0x100013,
+        0,
+    )?;
+    let second = one_call(
+        to,
+        first,
+        &mut memory,
+        &bad,
+        &mut store,
+        0,
+        1,
+        2,
+        0x200480,
+        0,
+    )?;
+    let third = one_call(
+        to,
+        second,
+        &mut memory,
+        &bad,
+        &mut store,
+        0,
+        0,
+        4,
+        0x200480,
+        0,
+    )?;
+    let fourth = one_call(
+        to,
+        third,
+        &mut memory,
+        &bad,
+        &mut store,
+        2,
+        1,
+        1,
+        0x100010,
+        256,
+    )?;
     // looks: into the cache store, into memory, and where nothing is mapped
-    print_look(fourth, &memory, &bad, &store, 0x100010);
-    print_look(fourth, &memory, &bad, &store, 0x104004);
-    print_look(fourth, &memory, &bad, &store, 0x300000);
+    print_look(to, fourth, &memory, &bad, &store, 0x100010)?;
+    print_look(to, fourth, &memory, &bad, &store, 0x104004)?;
+    print_look(to, fourth, &memory, &bad, &store, 0x300000)?;
     // the word at 4008 now aborts: a load of the word before it is served, a load of it is not
     bad[0x1002] = 1;
-    let fifth = one_call(fourth, &mut memory, &bad, &mut store, 0, 1, 4, 0x104004, 0);
-    one_call(fifth, &mut memory, &bad, &mut store, 0, 1, 4, 0x104008, 0);
+    let fifth = one_call(
+        to,
+        fourth,
+        &mut memory,
+        &bad,
+        &mut store,
+        0,
+        1,
+        4,
+        0x104004,
+        0,
+    )?;
+    one_call(
+        to,
+        fifth,
+        &mut memory,
+        &bad,
+        &mut store,
+        0,
+        1,
+        4,
+        0x104008,
+        0,
+    )?;
+    Ok(())
 }

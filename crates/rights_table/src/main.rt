@@ -4,39 +4,42 @@
 
 ghost use Rattle.std.specs.Prelude.{length, ◌≤◌};
 
-use libc::{STDERR_FILENO, STDOUT_FILENO};
+use std::env::{Env, FillError};
+use std::io;
+use std::io::{Stderr, Stdout, Write};
 
-fn print_usage() {
-    io::write_all(STDERR_FILENO, b"usage: rights_table\n");
-    io::write_all(
-        STDERR_FILENO,
+// Whether the program is called with arguments.
+fn has_arguments(rt: &impl Env) -> bool {
+    let mut first = [0u8; 1];
+    match rt.arg(1, &mut first) {
+        Err(FillError::NotPresent) => false,
+        _ => true,
+    }
+}
+
+fn print_usage(mut err: Stderr) -> io::Result<()> {
+    err.write_all(b"usage: rights_table\n")?;
+    err.write_all(
         b"Prints the 256 entries of the rights table, one a line, rising: index, entry. They are worked out from the domain values\n",
-    );
-    io::write_all(
-        STDERR_FILENO,
+    )?;
+    err.write_all(
         b"and table 2-3 of document 001. Index: domain value x 64 + AP x 16 + S x 8 + R x 4 + privileged x 2 + store. Entry:\n",
-    );
-    io::write_all(
-        STDERR_FILENO,
-        b"0 allowed, 1 domain fault, 2 permission fault.\n",
-    );
+    )?;
+    err.write_all(b"0 allowed, 1 domain fault, 2 permission fault.\n")
 }
 
 // Lays the table's text into a list, and writes it to standard output.
-fn print_table(text: &mut [u8])
+fn print_table(mut out: Stdout, text: &mut [u8]) -> io::Result<()>
     requires { 2048 ≤ length text.old }
 {
     let size = access_table::put_table(text);
-    if !io::write_all(STDOUT_FILENO, &text[..size]) {
-        os::fail(b"rights_table: standard output");
-    }
+    out.write_all(&text[..size])
 }
 
-fn main() {
-    if os::arg_count() > 1 {
-        print_usage();
-        return;
+fn main(rt: HostRuntime) -> io::Result<()> {
+    if has_arguments(&rt) {
+        return print_usage(rt.stderr());
     }
     let mut text = [0u8; 2048];
-    print_table(&mut text);
+    print_table(rt.stdout(), &mut text)
 }

@@ -1,0 +1,19 @@
+use Prim.Native.Nat.{◌^◌, ◌<◌, ◌≤◌}
+use native.Mathlib.Omega.{arith}
+use mathlib.Core.Bool.{true}
+use mathlib.Core.Path.{◌≡◌, sym, ◌∙◌, ap}
+use lib.IntN.{ℤ, pos, negsuc}
+use lib.Signed.{lt_z}
+use mir.Syntax.{w32}
+use mir.Val.{SFits}
+use mir.Facts.{to_z-of_z}
+use borrow.Author.Tests.{ltb-true}
+use borrow.Author.Rules.{rules}
+use Rattle.trace.specs.Codes.{unsigned_of}
+use Rattle.trace.proofs.Signs.{negative_cast, negative_bits, positive_cast}
+use Rattle.first_run.proofs.print_signed.Goals as goal
+
+-- the bits of a negative number are not all zero
+some_bits : (z : ℤ) → SFits w32 z → lt_z z (pos 0) ≡ true → 1 ≤ unsigned_of z
+some_bits (pos n) f t = absurd (omega (arith, ltb-true n 0 t))
+some_bits (negsuc n) f t = let h : n < 2 ^ 31 = f.sfits in omega arith
