@@ -21,8 +21,7 @@ pub struct PlainRan {
 }
 
 // An entry of the rights table: 0 allowed, 1 domain fault, 2 permission fault; 255 behind its end.
-#[unsafe(no_mangle)]
-pub extern "C" fn sa110_right(index: u32) -> u8
+pub fn sa110_right(index: u32) -> u8
     ensures { result ≡ spec.right_code index }
 {
     if index < 256 {
@@ -33,8 +32,7 @@ pub extern "C" fn sa110_right(index: u32) -> u8
 }
 
 // Fills a lent array with the rights table's 256 entries, worked out from the domain values and 001's table 2-3.
-#[unsafe(no_mangle)]
-pub extern "C" fn sa110_rights_table(table: &mut [u8; 256])
+pub fn sa110_rights_table(table: &mut [u8; 256])
     ensures { table.new ≡ access_table }
 {
     access_table::work_out(table);
@@ -52,8 +50,7 @@ fn mapping_code(m: Mapping) -> u64
 }
 
 // The walk for an address, over a memory and its map: the word of a TLB entry, which is odd, or twice the fault's domain × 16 + status.
-#[unsafe(no_mangle)]
-pub extern "C" fn sa110_walk(memory: &[u8], bad: &[u8], base: u32, va: u32) -> u64
+pub fn sa110_walk(memory: &[u8], bad: &[u8], base: u32, va: u32) -> u64
     ensures { result ≡ spec.walk_code memory.now bad.now base va }
 {
     let m = walk::walk(memory, bad, base / 0x4000 * 0x4000, VirtualAddress(va));
@@ -61,8 +58,7 @@ pub extern "C" fn sa110_walk(memory: &[u8], bad: &[u8], base: u32, va: u32) -> u
 }
 
 // A run of the plain machine, on a memory and its map, over a list of calls, five numbers each.
-#[unsafe(no_mangle)]
-pub extern "C" fn sa110_plain_run(
+pub fn sa110_plain_run(
     memory: &mut [u8],
     bad: &[u8],
     calls: &[u32],

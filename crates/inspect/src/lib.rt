@@ -33,8 +33,7 @@ fn look_code(state: State, cp15: Cp15, memory: &[u8], bad: &[u8], store: &[u8], 
 }
 
 // A look: whether memory or the cache store has the 32 bytes of a virtual address's line, and where.
-#[unsafe(no_mangle)]
-pub extern "C" fn sa110_look(
+pub fn sa110_look(
     state: &State,
     cp15: &Cp15,
     memory: &[u8],
@@ -56,8 +55,7 @@ fn sound_code(state: State, cp15: Cp15, n: usize) -> u32
 }
 
 // The test of soundness for a memory of n bytes: 1 sound, 0 unsound.
-#[unsafe(no_mangle)]
-pub extern "C" fn sa110_sound(state: &State, cp15: &Cp15, n: usize) -> u32
+pub fn sa110_sound(state: &State, cp15: &Cp15, n: usize) -> u32
     ensures { (memory bad store : List ℕ) → length memory ≡ n
         → result ≡ number (sound (machine_in memory bad store state.now cp15.now)) }
 {

@@ -11,13 +11,7 @@ use sa110::State;
 use values::Cp15;
 
 // The start: a fresh state and a record of zeros, or refusal 1 or 2 with a state all zeros.
-#[unsafe(no_mangle)]
-pub extern "C" fn sa110_start(
-    state: &mut State,
-    cp15: &mut Cp15,
-    memory: &[u8],
-    store: &[u8],
-) -> u32
+pub fn sa110_start(state: &mut State, cp15: &mut Cp15, memory: &[u8], store: &[u8]) -> u32
     ensures { (bad : List ℕ)
         → started_of memory.now bad store.now (record { state = state.new; cp15 = cp15.new; refusal = result })
         ≡ started memory.now bad store.now }
@@ -66,8 +60,7 @@ fn call_numbers(
 }
 
 // A call of five numbers.
-#[unsafe(no_mangle)]
-pub extern "C" fn sa110_call(
+pub fn sa110_call(
     state: &mut State,
     cp15: &mut Cp15,
     memory: &mut [u8],
@@ -91,8 +84,7 @@ pub extern "C" fn sa110_call(
 }
 
 // A run over a list of calls, five numbers each: how many calls were made.
-#[unsafe(no_mangle)]
-pub extern "C" fn sa110_run(
+pub fn sa110_run(
     state: &mut State,
     cp15: &mut Cp15,
     memory: &mut [u8],

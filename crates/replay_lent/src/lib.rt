@@ -8,8 +8,7 @@ ghost use Rattle.replay.specs.Code.{held_of, parted_of, flag};
 use replay::Replay;
 
 // Replays a part of a text; `ends` is not 0 where the text ends with it. It gives 3 where the record is refused, else 0.
-#[unsafe(no_mangle)]
-pub extern "C" fn sa110_replay(
+pub fn sa110_replay(
     replay: &mut Replay,
     memory: &mut [u8],
     bad: &[u8],

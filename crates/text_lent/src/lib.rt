@@ -18,13 +18,7 @@ fn store_code(state: State, cp15: Cp15, memory: &[u8], text: &mut [u8]) -> u64
 }
 
 // Stores a state and a record as text at the front of a slice.
-#[unsafe(no_mangle)]
-pub extern "C" fn sa110_store_text(
-    state: &State,
-    cp15: &Cp15,
-    memory: &[u8],
-    text: &mut [u8],
-) -> u64
+pub fn sa110_store_text(state: &State, cp15: &Cp15, memory: &[u8], text: &mut [u8]) -> u64
     ensures { (bad store : List ℕ) → coded.stored_code text.new result
         ≡ coded.stored_as (machine_in memory.now bad store state.now cp15.now) text.old }
 {
@@ -32,13 +26,7 @@ pub extern "C" fn sa110_store_text(
 }
 
 // Reads a text back into a state and a record: 0, or refusal 1, 14, 3 or 4 with a state and a record all zeros.
-#[unsafe(no_mangle)]
-pub extern "C" fn sa110_read_text(
-    state: &mut State,
-    cp15: &mut Cp15,
-    memory: &[u8],
-    text: &[u8],
-) -> u32
+pub fn sa110_read_text(state: &mut State, cp15: &mut Cp15, memory: &[u8], text: &[u8]) -> u32
     ensures { (bad store : List ℕ) → started_of memory.now bad store (record { state = state.new; cp15 = cp15.new; refusal = result })
         ≡ read_back memory.now bad store text.now }
 {
