@@ -1,14 +1,11 @@
 -- The shape of a machine whose state is a value of the library's types.
 use Prim.Native.Nat.{ℕ, zero, suc}
-use mathlib.Core.Path.{◌≡◌, refl, sym, ◌∙◌}
-use mathlib.Core.List.{List, [], ◌∷◌, map}
+use mathlib.Core.Path.{◌≡◌, refl, ◌∙◌}
+use mathlib.Core.List.{List, [], ◌∷◌}
 use lib.ListN.{length, length-map, get_or, replicate}
-use mir.Syntax.{w8}
 use mir.Val.{Val}
-use base.Fml.{Fml}
 use denote.Array.{each, array_val}
 use denote.Shadow.{shadow}
-use denote.Plain.{UInt}
 use denote.Laws.{Is}
 use Rattle.values.specs.declared.Cp15.{Cp15}
 use Rattle.words.specs.Words.{Bytes}

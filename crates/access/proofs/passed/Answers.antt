@@ -3,7 +3,6 @@ use Rattle.swaps.specs.Code.{store_or_swap}
 use Rattle.machine.specs.Lists.{lists, machine_of}
 use Prim.Native.Nat.{ℕ}
 use mathlib.Core.Path.{refl, sym, ◌∙◌, ap}
-use borrow.Author.Rules.{rules}
 use Rattle.access.proofs.passed.Goals as goal
 
 pub returns-then-is_store : goal.returns-then-is_store

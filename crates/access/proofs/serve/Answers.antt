@@ -2,7 +2,6 @@ use Rattle.access.proofs.Laws.{decision_is, access_passed, access_denied}
 use Rattle.reach.proofs.Laws.{ready_kept}
 use Rattle.machine.specs.Lists.{lists, machine_of}
 use mathlib.Core.Path.{sym, ◌∙◌}
-use borrow.Author.Rules.{rules}
 use Rattle.access.proofs.serve.Goals as goal
 
 pub commit-left-requires : goal.commit-left-requires

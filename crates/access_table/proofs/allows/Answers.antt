@@ -1,4 +1,3 @@
-use borrow.Author.Rules.{rules}
 use Rattle.access_table.proofs.allows.Goals as goal
 
 pub returns-in-NoAccess : goal.returns-in-NoAccess

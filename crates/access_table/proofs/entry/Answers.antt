@@ -1,6 +1,5 @@
 use mathlib.Core.Bool.{true, false}
 use mathlib.Core.Path.{sym, ◌∙◌}
-use borrow.Author.Rules.{rules}
 use Rattle.access_table.specs.AccessTable.{access_entry}
 use Rattle.access_table.proofs.Entries.{one_left, entry_checked}
 use Rattle.access_table.proofs.entry.Goals as goal

@@ -1,5 +1,4 @@
 use native.Mathlib.Nat.{div-one}
-use borrow.Author.Rules.{rules}
 use Rattle.access_table.proofs.entry_at.Goals as goal
 
 pub returns : goal.returns

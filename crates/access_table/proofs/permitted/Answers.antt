@@ -1,6 +1,5 @@
 use mathlib.Core.Path.{◌≡◌}
 use native.Mathlib.Omega.{arith}
-use borrow.Author.Rules.{rules}
 use Rattle.access_table.specs.Permissions.{rows, rows_for, permitted}
 use Rattle.access_table.proofs.permitted.Goals as goal
 

@@ -1,4 +1,3 @@
-use borrow.Author.Rules.{rules}
 use Rattle.access_table.specs.Permissions.{rows, rows_for, permitted}
 use Rattle.access_table.proofs.permitted_00.Goals as goal
 

@@ -1,8 +1,5 @@
-use Prim.Native.Nat.{◌-◌}
-use lib.ListN.{length}
 use native.Mathlib.Omega.{arith}
-use borrow.Author.Rules.{rules}
-use Rattle.access_table.proofs.Listing.{Listing, listing_start, listing_on, listing_end}
+use Rattle.access_table.proofs.Listing.{listing_start, listing_on, listing_end}
 use Rattle.access_table.proofs.put_entries.Goals as goal
 
 pub loop-i-init : goal.loop-i-init

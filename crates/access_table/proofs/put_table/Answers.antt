@@ -4,7 +4,6 @@ use mathlib.Core.Path.{sym, ◌∙◌, ap, subst}
 use Rattle.printed.specs.Code.{Laid}
 use Rattle.access_table.specs.Lines.{entry_lines}
 use lib.ListN.{length}
-use borrow.Author.Rules.{rules}
 use Rattle.access_table.proofs.Entries.{table_long}
 use Rattle.access_table.proofs.put_table.Goals as goal
 

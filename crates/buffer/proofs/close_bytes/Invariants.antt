@@ -1,10 +1,7 @@
-use Rattle.values.proofs.Toward.{Toward, toward_start}
-use Rattle.buffer.proofs.Closing.{close_step, close_end}
+use Rattle.values.proofs.Toward.{Toward}
 use mathlib.Core.Path.{◌≡◌}
-use native.Mathlib.Omega.{arith}
 use Prim.Native.Nat.{◌-◌, ◌≤◌}
-use lib.ListN.{length, length-set, drop, replicate}
-use borrow.Author.Rules.{rules}
+use lib.ListN.{length, drop}
 use Rattle.buffer.proofs.close_bytes.Given as goal
 
 abbrev pub invariant-loop-i : goal.invariant-loop-i

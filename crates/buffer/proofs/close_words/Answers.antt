@@ -1,9 +1,7 @@
-use Rattle.values.proofs.Toward.{Toward, toward_start}
+use Rattle.values.proofs.Toward.{toward_start}
 use Rattle.buffer.proofs.Closing.{close_step, close_end}
-use mathlib.Core.Path.{◌≡◌}
 use native.Mathlib.Omega.{arith}
-use Prim.Native.Nat.{◌-◌, ◌≤◌}
-use lib.ListN.{length, length-set, drop}
+use lib.ListN.{length-set, drop}
 use borrow.Author.Rules.{rules}
 use Rattle.buffer.proofs.close_words.Goals as goal
 

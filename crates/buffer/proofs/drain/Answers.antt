@@ -5,8 +5,6 @@ use Rattle.buffer.proofs.Closing.{drain_more, drain_end}
 use mathlib.Core.Path.{◌≡◌, refl, ◌∙◌, subst}
 use native.Mathlib.Omega.{arith}
 use Prim.Native.Nat.{ℕ}
-use lib.ListN.{length}
-use borrow.Author.Rules.{rules}
 use Rattle.buffer.proofs.drain.Goals as goal
 
 pub loop-n-init : goal.loop-n-init

@@ -1,12 +1,8 @@
-use Rattle.buffer.specs.Buffer.{drained, leaving}
+use Rattle.buffer.specs.Buffer.{leaving}
 use Rattle.buffer.specs.Packing.{backing_of}
 use Rattle.buffer.specs.Ranges.{Fits}
-use Rattle.buffer.proofs.Closing.{drain_more, drain_end}
-use mathlib.Core.Path.{◌≡◌, refl, ◌∙◌, subst}
-use native.Mathlib.Omega.{arith}
-use Prim.Native.Nat.{ℕ}
+use mathlib.Core.Path.{◌≡◌}
 use lib.ListN.{length}
-use borrow.Author.Rules.{rules}
 use Rattle.buffer.proofs.drain.Given as goal
 
 abbrev pub invariant-loop-n : goal.invariant-loop-n

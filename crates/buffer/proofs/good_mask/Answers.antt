@@ -3,7 +3,6 @@ use Rattle.buffer.proofs.GoodMask.{good_all}
 use mathlib.Core.Path.{◌≡◌, sym}
 use Prim.Native.Nat.{◌+◌, ◌*◌}
 use native.Mathlib.Omega.{arith}
-use borrow.Author.Rules.{rules}
 use Rattle.buffer.proofs.good_mask.Goals as goal
 
 pub returns-then-four_good : goal.returns-then-four_good

@@ -3,7 +3,7 @@ use Rattle.buffer.specs.Buffer.{laid}
 use Rattle.buffer.proofs.Laying.{lay_more, lay_done}
 use mathlib.Core.Path.{◌≡◌, refl, sym, ◌∙◌, ap}
 use native.Mathlib.Omega.{arith}
-use Prim.Native.Nat.{ℕ, ◌+◌, ◌-◌, ◌/◌, ◌≤◌}
+use Prim.Native.Nat.{ℕ, ◌+◌, ◌/◌}
 use lib.ListN.{length, drop}
 use mathlib.Core.List.{List}
 use borrow.Author.Rules.{rules}

@@ -1,12 +1,7 @@
-use native.Mathlib.Nat.{add-zero}
 use Rattle.buffer.specs.Buffer.{laid}
-use Rattle.buffer.proofs.Laying.{lay_more, lay_done}
-use mathlib.Core.Path.{◌≡◌, refl, sym, ◌∙◌, ap}
-use native.Mathlib.Omega.{arith}
-use Prim.Native.Nat.{ℕ, ◌+◌, ◌-◌, ◌/◌, ◌≤◌}
+use mathlib.Core.Path.{◌≡◌}
+use Prim.Native.Nat.{◌+◌, ◌-◌, ◌≤◌}
 use lib.ListN.{length, drop}
-use mathlib.Core.List.{List}
-use borrow.Author.Rules.{rules}
 use Rattle.buffer.proofs.lay.Given as goal
 
 abbrev pub invariant-loop-i : goal.invariant-loop-i

@@ -1,5 +1,4 @@
 use borrow.Author.Tests.{ne_eqb}
-use borrow.Author.Rules.{rules}
 use Rattle.buffer.proofs.lay_one.Goals as goal
 
 pub returns-then-mask-eq1 : goal.returns-then-mask-eq1

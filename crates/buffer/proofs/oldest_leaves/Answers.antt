@@ -6,7 +6,6 @@ use Rattle.buffer.specs.Buffer.{laid}
 use native.Mathlib.Omega.{arith}
 use lib.ListN.{get_or, replicate}
 use mathlib.Core.List.{[]}
-use borrow.Author.Rules.{rules}
 use Rattle.buffer.proofs.oldest_leaves.Goals as goal
 
 pub overflow_mul-block : goal.overflow_mul-block

@@ -1,7 +1,6 @@
 use Rattle.buffer.proofs.Closing.{pushed_in, pushed_full}
 use mathlib.Core.Path.{◌≡◌}
 use lib.ListN.{length}
-use borrow.Author.Rules.{rules}
 use Rattle.buffer.proofs.push.Goals as goal
 
 pub returns-then-used-lt8 : goal.returns-then-used-lt8

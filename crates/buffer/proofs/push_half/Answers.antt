@@ -1,5 +1,4 @@
 use Rattle.buffer.proofs.Joining.{half_left}
-use borrow.Author.Rules.{rules}
 use Rattle.buffer.proofs.push_half.Goals as goal
 
 pub returns : goal.returns

@@ -1,5 +1,4 @@
 use native.Mathlib.Omega.{arith}
-use borrow.Author.Rules.{rules}
 use Rattle.buffer.proofs.word_mask.Goals as goal
 
 pub returns-then-is_bad : goal.returns-then-is_bad

@@ -1,8 +1,5 @@
-use native.Mathlib.Omega.{arith}
-use Prim.Native.Nat.{ℕ, ◌-◌, ◌≤◌}
-use mathlib.Core.Path.{◌≡◌, sym, ◌∙◌, subst}
-use borrow.Author.Rules.{rules}
-use Rattle.soundness.proofs.Slots.{Held, held_none, held_on, too_many, places_held, place_bad}
+use Prim.Native.Nat.{◌-◌, ◌≤◌}
+use Rattle.soundness.proofs.Slots.{Held}
 use Rattle.buffer_test.proofs.buffer_sound.Given as goal
 
 abbrev pub invariant-loop-i : goal.invariant-loop-i

@@ -1,4 +1,3 @@
-use borrow.Author.Rules.{rules}
 use Rattle.buffer_test.proofs.place_sound.Goals as goal
 
 pub returns-then-holds : goal.returns-then-holds

@@ -1,6 +1,5 @@
 use mathlib.Core.Path.{sym, ◌∙◌}
 use Rattle.soundness.proofs.Slots.{empty_bytes, empty_no}
-use borrow.Author.Rules.{rules}
 use Rattle.buffer_test.proofs.slot_empty.Goals as goal
 
 pub returns-then-w-eq0 : goal.returns-then-w-eq0

@@ -1,6 +1,5 @@
 use mathlib.Core.Path.{sym, ◌∙◌}
 use Rattle.soundness.proofs.Slots.{slot_outside, slot_unmasked, slot_wide, slot_bytes}
-use borrow.Author.Rules.{rules}
 use Rattle.buffer_test.proofs.slot_sound.Goals as goal
 
 pub returns-then-w-n : goal.returns-then-w-n

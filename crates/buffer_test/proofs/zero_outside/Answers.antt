@@ -1,9 +1,6 @@
 use native.Mathlib.Omega.{arith}
-use Prim.Native.Nat.{◌-◌, ◌≤◌}
-use mathlib.Core.Path.{◌≡◌, refl, sym, ◌∙◌}
-use lib.ListN.{drop}
+use mathlib.Core.Path.{refl, sym, ◌∙◌}
 use borrow.Author.Rules.{rules}
-use Rattle.soundness.specs.Soundness.{zero_outside}
 use Rattle.soundness.proofs.Slots.{outside_no, outside_on, outside_end}
 use Rattle.buffer_test.proofs.zero_outside.Goals as goal
 

@@ -1,10 +1,7 @@
-use native.Mathlib.Omega.{arith}
 use Prim.Native.Nat.{◌-◌, ◌≤◌}
-use mathlib.Core.Path.{◌≡◌, refl, sym, ◌∙◌}
+use mathlib.Core.Path.{◌≡◌}
 use lib.ListN.{drop}
-use borrow.Author.Rules.{rules}
 use Rattle.soundness.specs.Soundness.{zero_outside}
-use Rattle.soundness.proofs.Slots.{outside_no, outside_on, outside_end}
 use Rattle.buffer_test.proofs.zero_outside.Given as goal
 
 abbrev pub invariant-loop-i : goal.invariant-loop-i

@@ -1,6 +1,5 @@
 use Rattle.bus.proofs.Laws.{outside_aborts, inside_bad}
 use mathlib.Core.Path.{sym, ◌∙◌}
-use borrow.Author.Rules.{rules}
 use Rattle.bus.proofs.aborts.Goals as goal
 
 pub returns-then-outside : goal.returns-then-outside

@@ -1,10 +1,7 @@
-use Rattle.bus.specs.Physical.{physical, aborts_within}
 use Rattle.bus.proofs.Laws.{within_zero, within_found, within_next}
 use mathlib.Core.Bool.{false}
 use mathlib.Core.Path.{◌≡◌, sym, ◌∙◌}
 use native.Mathlib.Omega.{arith}
-use Prim.Native.Nat.{◌-◌, ◌≤◌}
-use borrow.Author.Rules.{rules}
 use Rattle.bus.proofs.aborts_within.Goals as goal
 
 pub loop-i-init : goal.loop-i-init

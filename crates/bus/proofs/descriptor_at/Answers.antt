@@ -1,7 +1,6 @@
 use mathlib.Core.Path.{sym, ◌∙◌, ap}
 use Rattle.bus.specs.declared.Descriptor.TheVariants.{Word}
 use Rattle.bus.proofs.Laws.{answers, descriptor_in, descriptor_out}
-use borrow.Author.Rules.{rules}
 use Rattle.bus.proofs.descriptor_at.Goals as goal
 
 pub word-requires : goal.word-requires

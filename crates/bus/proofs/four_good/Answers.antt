@@ -2,7 +2,6 @@ use mathlib.Core.Path.{refl, sym, ◌∙◌}
 use borrow.Author.Tests.{eqb-true}
 use Rattle.values.proofs.Cases.{clash}
 use Rattle.bus.proofs.Laws.{zero_good}
-use borrow.Author.Rules.{rules}
 use Rattle.bus.proofs.four_good.Goals as goal
 
 pub returns-then-bad-w : goal.returns-then-bad-w

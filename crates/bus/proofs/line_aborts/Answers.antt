@@ -1,5 +1,4 @@
 use mathlib.Core.Path.{sym}
-use borrow.Author.Rules.{rules}
 use Rattle.bus.proofs.line_aborts.Goals as goal
 
 pub returns-then-line_good : goal.returns-then-line_good

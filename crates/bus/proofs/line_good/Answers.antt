@@ -2,7 +2,6 @@ use mathlib.Core.Path.{refl}
 use native.Mathlib.Omega.{arith}
 use Rattle.values.proofs.Cases.{clash}
 use Rattle.bus.proofs.Laws.{line_answers_lem}
-use borrow.Author.Rules.{rules}
 use Rattle.bus.proofs.line_good.Goals as goal
 
 pub returns-then-memory-first : goal.returns-then-memory-first

@@ -4,7 +4,6 @@ use Rattle.cache.specs.Packing.{line_of, lines_of}
 use Rattle.cache.proofs.Lines.{line_zero}
 use mathlib.Core.Path.{◌∙◌, ap}
 use lib.ListN.{set}
-use borrow.Author.Rules.{rules}
 use Rattle.cache.proofs.empty_line.Goals as goal
 
 pub returns : goal.returns

@@ -3,11 +3,10 @@ use Rattle.values.specs.Lists.{first_from}
 use Rattle.cache.specs.Dcache.{has_tag, find}
 use Rattle.cache.specs.Packing.{lines_of}
 use Rattle.cache.proofs.Lines.{tag_valid, tag_invalid, find_hit, find_on, find_end}
-use mathlib.Core.Path.{◌≡◌, sym, ◌∙◌, ap}
+use mathlib.Core.Path.{sym, ◌∙◌, ap}
 use native.Mathlib.Omega.{arith}
-use Prim.Native.Nat.{ℕ, ◌+◌, ◌-◌, ◌*◌, ◌/◌, ◌%◌, ◌<◌, ◌≤◌}
-use lib.ListN.{get_or, take, drop}
-use borrow.Author.Rules.{rules}
+use Prim.Native.Nat.{ℕ, ◌*◌, ◌/◌, ◌%◌}
+use lib.ListN.{take, drop}
 use Rattle.cache.proofs.find.Goals as goal
 
 pub next_tag-i-requires : goal.next_tag-i-requires

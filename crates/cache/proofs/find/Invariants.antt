@@ -1,13 +1,9 @@
-use native.Mathlib.Nat.{add-zero}
 use Rattle.values.specs.Lists.{first_from}
-use Rattle.cache.specs.Dcache.{has_tag, find}
+use Rattle.cache.specs.Dcache.{has_tag}
 use Rattle.cache.specs.Packing.{lines_of}
-use Rattle.cache.proofs.Lines.{tag_valid, tag_invalid, find_hit, find_on, find_end}
-use mathlib.Core.Path.{◌≡◌, sym, ◌∙◌, ap}
-use native.Mathlib.Omega.{arith}
-use Prim.Native.Nat.{ℕ, ◌+◌, ◌-◌, ◌*◌, ◌/◌, ◌%◌, ◌<◌, ◌≤◌}
+use mathlib.Core.Path.{◌≡◌}
+use Prim.Native.Nat.{◌+◌, ◌-◌, ◌/◌, ◌<◌, ◌≤◌}
 use lib.ListN.{get_or, take, drop}
-use borrow.Author.Rules.{rules}
 use Rattle.cache.proofs.find.Given as goal
 
 abbrev pub invariant-loop-i : goal.invariant-loop-i

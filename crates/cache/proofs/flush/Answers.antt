@@ -1,10 +1,8 @@
-use Rattle.values.proofs.InPlace.{Upto, upto_start}
+use Rattle.values.proofs.InPlace.{upto_start}
 use Rattle.cache.specs.Packing.{lines_of}
 use Rattle.cache.proofs.Lines.{emptied, flush_step, flush_end}
-use mathlib.Core.Path.{◌≡◌}
 use native.Mathlib.Omega.{arith}
-use Prim.Native.Nat.{◌-◌, ◌≤◌}
-use lib.ListN.{length, length-set}
+use lib.ListN.{length-set}
 use borrow.Author.Rules.{rules}
 use Rattle.cache.proofs.flush.Goals as goal
 

@@ -1,11 +1,9 @@
-use Rattle.values.proofs.InPlace.{Upto, upto_start}
+use Rattle.values.proofs.InPlace.{Upto}
 use Rattle.cache.specs.Packing.{lines_of}
-use Rattle.cache.proofs.Lines.{emptied, flush_step, flush_end}
+use Rattle.cache.proofs.Lines.{emptied}
 use mathlib.Core.Path.{◌≡◌}
-use native.Mathlib.Omega.{arith}
 use Prim.Native.Nat.{◌-◌, ◌≤◌}
-use lib.ListN.{length, length-set}
-use borrow.Author.Rules.{rules}
+use lib.ListN.{length}
 use Rattle.cache.proofs.flush.Given as goal
 
 abbrev pub invariant-loop-i : goal.invariant-loop-i

@@ -2,7 +2,6 @@ use Rattle.cache.specs.Packing.{line_of}
 use mathlib.Core.Path.{◌≡◌}
 use native.Mathlib.Omega.{arith}
 use Prim.Native.Nat.{◌/◌, ◌%◌}
-use borrow.Author.Rules.{rules}
 use Rattle.cache.proofs.line_of.Goals as goal
 
 pub returns : goal.returns

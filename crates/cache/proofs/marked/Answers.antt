@@ -1,5 +1,4 @@
 use Rattle.cache.proofs.Lines.{marked_low, marked_high, mark_low, mark_high}
-use borrow.Author.Rules.{rules}
 use Rattle.cache.proofs.marked.Goals as goal
 
 pub returns-then-w-eq1 : goal.returns-then-w-eq1

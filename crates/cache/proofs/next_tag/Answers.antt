@@ -1,12 +1,6 @@
-use Rattle.values.specs.Lists.{first_from}
-use Rattle.cache.specs.Dcache.{has_tag}
-use Rattle.cache.specs.Packing.{lines_of}
 use Rattle.cache.proofs.Lines.{tag_other, find_on}
-use mathlib.Core.Path.{◌≡◌, refl, sym, ◌∙◌}
+use mathlib.Core.Path.{refl, sym, ◌∙◌}
 use native.Mathlib.Omega.{arith}
-use Prim.Native.Nat.{◌+◌, ◌-◌, ◌≤◌}
-use lib.ListN.{take, drop}
-use borrow.Author.Rules.{rules}
 use Rattle.cache.proofs.next_tag.Goals as goal
 
 pub loop-i-init : goal.loop-i-init

@@ -1,12 +1,9 @@
 use Rattle.values.specs.Lists.{first_from}
 use Rattle.cache.specs.Dcache.{has_tag}
 use Rattle.cache.specs.Packing.{lines_of}
-use Rattle.cache.proofs.Lines.{tag_other, find_on}
-use mathlib.Core.Path.{◌≡◌, refl, sym, ◌∙◌}
-use native.Mathlib.Omega.{arith}
+use mathlib.Core.Path.{◌≡◌}
 use Prim.Native.Nat.{◌+◌, ◌-◌, ◌≤◌}
 use lib.ListN.{take, drop}
-use borrow.Author.Rules.{rules}
 use Rattle.cache.proofs.next_tag.Given as goal
 
 abbrev pub invariant-loop-i : goal.invariant-loop-i

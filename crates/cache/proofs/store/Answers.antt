@@ -2,7 +2,6 @@ use Rattle.values.proofs.Maps.{map_set}
 use Rattle.cache.specs.Dcache.{hit_store}
 use Rattle.cache.specs.Packing.{line_of}
 use Rattle.cache.proofs.Lines.{line_at}
-use borrow.Author.Rules.{rules}
 use Rattle.cache.proofs.store.Goals as goal
 
 pub returns : goal.returns

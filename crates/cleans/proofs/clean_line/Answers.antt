@@ -1,7 +1,6 @@
 use Rattle.cache.proofs.Sending.{clean_left}
 use Rattle.cache.proofs.Lines.{held_sends}
 use native.Mathlib.Omega.{arith}
-use borrow.Author.Rules.{rules}
 use Rattle.cleans.proofs.clean_line.Goals as goal
 
 pub send_halves-n-requires : goal.send_halves-n-requires

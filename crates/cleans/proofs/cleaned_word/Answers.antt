@@ -1,5 +1,4 @@
 use Rattle.cache.proofs.Lines.{clean_word}
-use borrow.Author.Rules.{rules}
 use Rattle.cleans.proofs.cleaned_word.Goals as goal
 
 pub returns : goal.returns

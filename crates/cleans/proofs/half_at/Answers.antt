@@ -1,9 +1,7 @@
-use Rattle.values.proofs.Toward.{Toward, toward_start}
+use Rattle.values.proofs.Toward.{toward_start}
 use Rattle.cache.proofs.Copies.{half_step, half_end}
-use mathlib.Core.Path.{◌≡◌}
 use native.Mathlib.Omega.{arith}
-use Prim.Native.Nat.{◌-◌, ◌≤◌}
-use lib.ListN.{length, length-set, take, drop}
+use lib.ListN.{length-set, take, drop}
 use borrow.Author.Rules.{rules}
 use Rattle.cleans.proofs.half_at.Goals as goal
 

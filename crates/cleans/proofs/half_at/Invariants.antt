@@ -1,10 +1,7 @@
-use Rattle.values.proofs.Toward.{Toward, toward_start}
-use Rattle.cache.proofs.Copies.{half_step, half_end}
+use Rattle.values.proofs.Toward.{Toward}
 use mathlib.Core.Path.{◌≡◌}
-use native.Mathlib.Omega.{arith}
 use Prim.Native.Nat.{◌-◌, ◌≤◌}
-use lib.ListN.{length, length-set, take, drop}
-use borrow.Author.Rules.{rules}
+use lib.ListN.{length, take, drop}
 use Rattle.cleans.proofs.half_at.Given as goal
 
 abbrev pub invariant-loop-i : goal.invariant-loop-i

@@ -1,5 +1,4 @@
 use mathlib.Core.Path.{refl}
-use borrow.Author.Rules.{rules}
 use Rattle.cleans.proofs.send_half.Goals as goal
 
 pub push_half-requires : goal.push_half-requires

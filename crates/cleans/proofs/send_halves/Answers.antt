@@ -1,7 +1,6 @@
 use Rattle.values.proofs.Cases.{or_left, or_right}
 use native.Mathlib.Omega.{arith}
 use Rattle.cache.specs.Dcache.{halves_sent}
-use borrow.Author.Rules.{rules}
 use Rattle.cleans.proofs.send_halves.Goals as goal
 
 pub send_half-n-requires : goal.send_half-n-requires

@@ -4,7 +4,6 @@ use Rattle.cache.specs.Packing.{lines_of}
 use Rattle.machine.specs.Lists.{lists}
 use mathlib.Core.List.{[]}
 use mathlib.Core.Path.{sym, ◌∙◌}
-use borrow.Author.Rules.{rules}
 use Rattle.cp15.proofs.clean.Goals as goal
 
 pub clean_line-n-requires : goal.clean_line-n-requires

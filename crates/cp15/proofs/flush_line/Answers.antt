@@ -2,7 +2,6 @@ use Rattle.cp15.proofs.Laws.{line_flushed_lem, none_flushed}
 use Rattle.cache.proofs.Finds.{found}
 use Rattle.cache.specs.Packing.{lines_of}
 use mathlib.Core.Path.{sym, ◌∙◌}
-use borrow.Author.Rules.{rules}
 use Rattle.cp15.proofs.flush_line.Goals as goal
 
 pub empty_line-requires : goal.empty_line-requires

@@ -2,7 +2,6 @@ use Rattle.values.proofs.Cases.{or_left}
 use Rattle.registers.specs.Pairs.{is_pair}
 use mathlib.Core.Bool.{false}
 use mathlib.Core.Path.{◌≡◌, sym, ◌∙◌}
-use borrow.Author.Rules.{rules}
 use Rattle.cp15.proofs.is_flush.Goals as goal
 
 pub returns-then-is_pair : goal.returns-then-is_pair

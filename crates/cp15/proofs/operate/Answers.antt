@@ -1,7 +1,6 @@
 use Rattle.cp15.proofs.Laws.{no_operation}
 use Rattle.machine.specs.Lists.{lists, machine_of}
 use mathlib.Core.Path.{sym}
-use borrow.Author.Rules.{rules}
 use Rattle.cp15.proofs.operate.Goals as goal
 
 pub returns-then-t-eq7 : goal.returns-then-t-eq7

@@ -8,7 +8,6 @@ use mathlib.Core.List.{List}
 use Rattle.registers.specs.Pairs.{is_pair}
 use mathlib.Core.Bool.{true, false, ◌||◌}
 use mathlib.Core.Path.{◌≡◌, sym, ◌∙◌, ap}
-use borrow.Author.Rules.{rules}
 use Rattle.cp15.proofs.operate_seven.Goals as goal
 
 pub returns-then-is_flush : goal.returns-then-is_flush

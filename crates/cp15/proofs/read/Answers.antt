@@ -1,5 +1,4 @@
 use Rattle.cp15.specs.Operations.{read}
-use borrow.Author.Rules.{rules}
 use Rattle.cp15.proofs.read.Goals as goal
 
 pub returns : goal.returns

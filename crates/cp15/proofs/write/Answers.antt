@@ -1,6 +1,5 @@
 use Rattle.cp15.proofs.Laws.{write_left}
 use Rattle.machine.specs.Lists.{lists}
-use borrow.Author.Rules.{rules}
 use Rattle.cp15.proofs.write.Goals as goal
 
 pub returns : goal.returns

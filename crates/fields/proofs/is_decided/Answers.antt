@@ -1,4 +1,4 @@
-use Rattle.fields.proofs.Within.{Looking, looking_start, looking_none, looking_end, looking_feed, looking_on}
+use Rattle.fields.proofs.Within.{looking_start, looking_none, looking_end, looking_feed, looking_on}
 use borrow.Author.Rules.{rules}
 use Rattle.fields.proofs.is_decided.Goals as goal
 

@@ -1,7 +1,6 @@
 use Rattle.trace.specs.Calls.{is_call_at}
 use mathlib.Core.Bool.{true, false}
 use mathlib.Core.Path.{◌≡◌, sym, ◌∙◌}
-use borrow.Author.Rules.{rules}
 use Rattle.fields.proofs.is_text_call_at.Goals as goal
 
 pub returns-then-is_call_at : goal.returns-then-is_call_at

@@ -1,7 +1,6 @@
 use borrow.Author.Rules.{rules}
-use Prim.Native.Nat.{◌-◌}
 use mathlib.Core.Path.{◌∙◌}
-use Rattle.fields.proofs.Parsing.{Parsing, parsing_start, parsing_end, parsing_stop, parsing_on}
+use Rattle.fields.proofs.Parsing.{parsing_start, parsing_end, parsing_stop, parsing_on}
 use Rattle.fields.proofs.parse.Goals as goal
 
 pub loop-k-init : goal.loop-k-init

@@ -1,7 +1,5 @@
-use borrow.Author.Rules.{rules}
 use Prim.Native.Nat.{◌-◌}
-use mathlib.Core.Path.{◌∙◌}
-use Rattle.fields.proofs.Parsing.{Parsing, parsing_start, parsing_end, parsing_stop, parsing_on}
+use Rattle.fields.proofs.Parsing.{Parsing}
 use Rattle.fields.proofs.parse.Given as goal
 
 abbrev pub invariant-loop-k : goal.invariant-loop-k

@@ -1,10 +1,10 @@
 use borrow.Author.Rules.{rules}
-use Prim.Native.Nat.{ℕ, ◌-◌}
+use Prim.Native.Nat.{ℕ}
 use mathlib.Core.Path.{sym, ◌∙◌, ap}
 use lib.ListN.{drop}
 use Rattle.fields.specs.Code.{field_at}
 use Rattle.fields.proofs.Separators.{some_byte}
-use Rattle.fields.proofs.Scan.{Scanning, scanning_start, scanning_bad, scanning_on}
+use Rattle.fields.proofs.Scan.{scanning_start, scanning_bad, scanning_on}
 use Rattle.fields.proofs.LineRead.{read_bad, read_long, read_no_call, read_whole}
 use Rattle.fields.proofs.read_line.Goals as goal
 

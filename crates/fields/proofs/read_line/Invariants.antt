@@ -1,11 +1,5 @@
-use borrow.Author.Rules.{rules}
-use Prim.Native.Nat.{ℕ, ◌-◌}
-use mathlib.Core.Path.{sym, ◌∙◌, ap}
-use lib.ListN.{drop}
-use Rattle.fields.specs.Code.{field_at}
-use Rattle.fields.proofs.Separators.{some_byte}
-use Rattle.fields.proofs.Scan.{Scanning, scanning_start, scanning_bad, scanning_on}
-use Rattle.fields.proofs.LineRead.{read_bad, read_long, read_no_call, read_whole}
+use Prim.Native.Nat.{◌-◌}
+use Rattle.fields.proofs.Scan.{Scanning}
 use Rattle.fields.proofs.read_line.Given as goal
 
 abbrev pub invariant-loop-i : goal.invariant-loop-i

@@ -1,5 +1,4 @@
 use Rattle.fields.proofs.Digits.{
-  Numbering,
   numbering_start,
   numbering_stop,
   numbering_on,
@@ -10,8 +9,6 @@ use Rattle.fields.proofs.Digits.{
   digits_stop,
   digits_end,
 }
-use Prim.Native.Nat.{◌-◌}
-use lib.ListN.{length}
 use native.Mathlib.Omega.{arith}
 use borrow.Author.Rules.{rules}
 use Rattle.fields.proofs.read_number.Goals as goal

@@ -1,6 +1,4 @@
-use borrow.Author.Rules.{rules}
 use Rattle.fields.proofs.Verdicts.{verdict_long, verdict_ends, verdict_nothing, verdict_open}
-use borrow.Author.Rules.{rules}
 use Rattle.fields.proofs.verdict.Goals as goal
 
 pub returns-then-is_decided : goal.returns-then-is_decided

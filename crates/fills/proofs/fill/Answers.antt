@@ -5,7 +5,6 @@ use Rattle.cache.specs.Packing.{side_of}
 use Rattle.cache.specs.Dcache.{victim}
 use mathlib.Core.Path.{refl, sym, ◌∙◌}
 use native.Mathlib.Omega.{arith}
-use borrow.Author.Rules.{rules}
 use Rattle.fills.proofs.fill.Goals as goal
 
 pub returns-then-aborts : goal.returns-then-aborts

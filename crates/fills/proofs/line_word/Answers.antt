@@ -1,5 +1,4 @@
 use Rattle.cache.proofs.Lines.{fresh_word}
-use borrow.Author.Rules.{rules}
 use Rattle.fills.proofs.line_word.Goals as goal
 
 pub returns : goal.returns

@@ -3,8 +3,7 @@ use Rattle.cache.specs.Copies.{Continues}
 use Rattle.cache.proofs.Copies.{continues_start, continues_step}
 use mathlib.Core.Path.{◌≡◌, refl, subst}
 use native.Mathlib.Omega.{arith}
-use Prim.Native.Nat.{◌-◌, ◌≤◌}
-use lib.ListN.{length, length-set}
+use lib.ListN.{length-set}
 use Rattle.fills.proofs.put_half.Goals as goal
 
 pub loop-i-init : goal.loop-i-init

@@ -1,10 +1,7 @@
-use borrow.Author.Rules.{rules}
 use Rattle.cache.specs.Copies.{Continues}
-use Rattle.cache.proofs.Copies.{continues_start, continues_step}
-use mathlib.Core.Path.{◌≡◌, refl, subst}
-use native.Mathlib.Omega.{arith}
+use mathlib.Core.Path.{◌≡◌}
 use Prim.Native.Nat.{◌-◌, ◌≤◌}
-use lib.ListN.{length, length-set}
+use lib.ListN.{length}
 use Rattle.fills.proofs.put_half.Given as goal
 
 abbrev pub invariant-loop-i : goal.invariant-loop-i

@@ -1,4 +1,3 @@
-use borrow.Author.Rules.{rules}
 use Rattle.fills.proofs.send_out.Goals as goal
 
 pub returns : goal.returns

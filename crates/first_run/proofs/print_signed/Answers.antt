@@ -1,17 +1,13 @@
 use Prim.Native.Nat.{◌^◌, ◌<◌, ◌≤◌}
 use native.Mathlib.Omega.{arith}
 use mathlib.Core.Bool.{true}
-use mathlib.Core.Path.{◌≡◌, sym, ◌∙◌, ap}
+use mathlib.Core.Path.{◌≡◌}
 use lib.IntN.{ℤ, pos, negsuc}
 use lib.Signed.{lt_z}
 use mir.Syntax.{w32}
 use mir.Val.{SFits}
-use mir.Facts.{to_z-of_z}
 use borrow.Author.Tests.{ltb-true}
-use borrow.Author.Rules.{rules}
 use Rattle.trace.specs.Codes.{unsigned_of}
-use Rattle.trace.proofs.Signs.{negative_cast, negative_bits, positive_cast}
-use Rattle.first_run.proofs.print_signed.Goals as goal
 
 -- the bits of a negative number are not all zero
 some_bits : (z : ℤ) → SFits w32 z → lt_z z (pos 0) ≡ true → 1 ≤ unsigned_of z

@@ -1,7 +1,5 @@
 use Prim.Native.Nat.{◌-◌}
-use borrow.Author.Rules.{rules}
-use native.Mathlib.Omega.{arith}
-use Rattle.form.proofs.Ending.{Ending, ending_start, ending_room, ending_on, ending_end}
+use Rattle.form.proofs.Ending.{Ending}
 use Rattle.form.proofs.end_lines.Given as goal
 
 abbrev pub invariant-loop-i : goal.invariant-loop-i

@@ -1,9 +1,7 @@
 use Prim.Native.Nat.{◌-◌}
 use lib.ListN.{length}
-use borrow.Author.Rules.{rules}
-use native.Mathlib.Omega.{arith}
 use Rattle.form.specs.Code.{places_of}
-use Rattle.form.proofs.Putting.{Putting, putting_start, putting_room, putting_byte, putting_on, putting_end}
+use Rattle.form.proofs.Putting.{Putting}
 use Rattle.form.proofs.put_numbers.Given as goal
 
 abbrev pub invariant-loop-k : goal.invariant-loop-k

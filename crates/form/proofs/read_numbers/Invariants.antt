@@ -1,9 +1,7 @@
 use Prim.Native.Nat.{◌-◌}
 use lib.ListN.{length}
-use borrow.Author.Rules.{rules}
-use native.Mathlib.Omega.{arith}
 use Rattle.form.specs.Code.{places_of}
-use Rattle.form.proofs.Reading.{Reading, reading_start, reading_bad, reading_on, reading_end}
+use Rattle.form.proofs.Reading.{Reading}
 use Rattle.form.proofs.read_numbers.Given as goal
 
 abbrev pub invariant-loop-k : goal.invariant-loop-k

@@ -1,8 +1,6 @@
-use Prim.Native.Nat.{◌-◌}
-use lib.ListN.{length}
 use native.Mathlib.Omega.{arith}
 use borrow.Author.Rules.{rules}
-use Rattle.form.proofs.Sizes.{Sizing, sizing_start, sizing_on, sizing_end}
+use Rattle.form.proofs.Sizes.{sizing_start, sizing_on, sizing_end}
 use Rattle.form.proofs.text_size.Goals as goal
 
 pub loop-k-init : goal.loop-k-init

@@ -1,7 +1,5 @@
-use borrow.Author.Rules.{rules}
 use mathlib.Core.Path.{sym, ◌∙◌}
 use Rattle.held.proofs.Keeping.{kept_no_lines, kept_no_held, kept_no_waiting, kept_no_feed, kept_all}
-use borrow.Author.Rules.{rules}
 use Rattle.held.proofs.is_kept.Goals as goal
 
 pub returns-then-lines-gt-LINES : goal.returns-then-lines-gt-LINES

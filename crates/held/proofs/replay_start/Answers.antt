@@ -1,7 +1,5 @@
-use borrow.Author.Rules.{rules}
 use Rattle.sa110.specs.State.{started_of}
 use Rattle.held.proofs.Keeping.{start_is}
-use borrow.Author.Rules.{rules}
 use Rattle.held.proofs.replay_start.Goals as goal
 
 pub returns : goal.returns

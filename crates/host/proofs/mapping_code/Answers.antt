@@ -1,5 +1,4 @@
 use native.Mathlib.Omega.{arith}
-use borrow.Author.Rules.{rules}
 use Rattle.host.proofs.mapping_code.Goals as goal
 
 pub word_of-requires : goal.word_of-requires

@@ -1,5 +1,4 @@
 use borrow.Author.Tests.{lt-ltb, le-ltb}
-use borrow.Author.Rules.{rules}
 use Rattle.host.proofs.sa110_right.Goals as goal
 
 pub returns-then-index-lt256 : goal.returns-then-index-lt256

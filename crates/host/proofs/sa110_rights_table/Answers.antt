@@ -1,4 +1,3 @@
-use borrow.Author.Rules.{rules}
 use Rattle.host.proofs.sa110_rights_table.Goals as goal
 
 pub returns : goal.returns

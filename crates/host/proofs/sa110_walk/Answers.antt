@@ -1,6 +1,5 @@
 use Rattle.host.specs.Exports.{mapping_code}
 use mathlib.Core.Path.{◌∙◌, ap}
-use borrow.Author.Rules.{rules}
 use Rattle.host.proofs.sa110_walk.Goals as goal
 
 pub returns : goal.returns

@@ -1,6 +1,5 @@
 use Rattle.look.proofs.Looks.{part_low}
 use Rattle.sa110.specs.State.{machine_in}
-use borrow.Author.Rules.{rules}
 use Rattle.inspect.proofs.look_code.Goals as goal
 
 pub part_code-requires : goal.part_code-requires

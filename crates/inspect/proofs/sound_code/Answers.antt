@@ -1,6 +1,5 @@
 use mathlib.Core.Path.{◌∙◌, ap}
 use Rattle.values.specs.Bits.{number}
-use borrow.Author.Rules.{rules}
 use Rattle.inspect.proofs.sound_code.Goals as goal
 
 pub returns : goal.returns

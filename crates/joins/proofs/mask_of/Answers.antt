@@ -1,7 +1,6 @@
 use Rattle.words.proofs.Widths.{is_one}
 use Rattle.buffer.proofs.Holding.{shifted, power_low}
 use native.Mathlib.Omega.{arith}
-use borrow.Author.Rules.{rules}
 use Rattle.joins.proofs.mask_of.Goals as goal
 
 pub returns-then-width-eq4 : goal.returns-then-width-eq4

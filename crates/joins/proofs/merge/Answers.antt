@@ -2,7 +2,6 @@ use mathlib.Core.Path.{ap}
 use Prim.Native.Nat.{ℕ}
 use lib.ListN.{set}
 use mathlib.Core.List.{List}
-use borrow.Author.Rules.{rules}
 use Rattle.joins.proofs.merge.Goals as goal
 
 pub returns : goal.returns

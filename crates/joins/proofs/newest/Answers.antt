@@ -7,7 +7,6 @@ use native.Mathlib.Omega.{arith}
 use Prim.Native.Nat.{ℕ, zero, suc, ◌-◌, ◌/◌, ◌<◌, ◌≤◌}
 use lib.ListN.{length, get_or}
 use mathlib.Core.List.{List}
-use borrow.Author.Rules.{rules}
 use Rattle.joins.proofs.newest.Goals as goal
 
 -- where no place has the block, no entry has it

@@ -1,11 +1,7 @@
-use Rattle.buffer.specs.Buffer.{newest_of}
 use Rattle.buffer.specs.Packing.{slots_of}
 use Rattle.buffer.proofs.NewestOf.{newest_hit, newest_on, newest_none}
-use mathlib.Core.Path.{◌≡◌, refl, sym, ◌∙◌}
+use mathlib.Core.Path.{refl, sym, ◌∙◌}
 use native.Mathlib.Omega.{arith}
-use Prim.Native.Nat.{ℕ, ◌≤◌}
-use lib.ListN.{length}
-use mathlib.Core.List.{List}
 use borrow.Author.Rules.{rules}
 use Rattle.joins.proofs.search_down.Goals as goal
 

@@ -1,12 +1,9 @@
 use Rattle.buffer.specs.Buffer.{newest_of}
 use Rattle.buffer.specs.Packing.{slots_of}
-use Rattle.buffer.proofs.NewestOf.{newest_hit, newest_on, newest_none}
-use mathlib.Core.Path.{◌≡◌, refl, sym, ◌∙◌}
-use native.Mathlib.Omega.{arith}
+use mathlib.Core.Path.{◌≡◌}
 use Prim.Native.Nat.{ℕ, ◌≤◌}
 use lib.ListN.{length}
 use mathlib.Core.List.{List}
-use borrow.Author.Rules.{rules}
 use Rattle.joins.proofs.search_down.Given as goal
 
 abbrev pub invariant-loop-n : goal.invariant-loop-n

@@ -3,7 +3,6 @@ use Rattle.buffer.proofs.Joining.{newest_below, joined_left, new_inside, new_lef
 use mathlib.Core.Path.{sym, ◌∙◌}
 use native.Mathlib.Omega.{arith}
 use Prim.Native.Nat.{◌/◌}
-use borrow.Author.Rules.{rules}
 use Rattle.joins.proofs.store.Goals as goal
 
 pub join-requires : goal.join-requires

@@ -1,7 +1,6 @@
 use mathlib.Core.Path.{◌∙◌, ap}
 use Rattle.sa110.specs.State.{machine_in}
 use Rattle.lent.proofs.Calls.{coded_left, one_call}
-use borrow.Author.Rules.{rules}
 use Rattle.lent.proofs.call_numbers.Goals as goal
 
 pub returns : goal.returns

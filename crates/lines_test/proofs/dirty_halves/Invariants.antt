@@ -1,16 +1,9 @@
-use native.Mathlib.Omega.{arith}
 use Prim.Native.Nat.{◌+◌, ◌-◌, ◌*◌, ◌/◌, ◌%◌, ◌≤◌}
-use native.Mathlib.Nat.{zero-add}
 use mathlib.Core.Path.{◌≡◌}
-use lib.ListN.{get_or, drop}
-use borrow.Author.Rules.{rules}
+use lib.ListN.{drop}
 use Rattle.values.specs.Lists.{sum}
-use Rattle.values.specs.Empty.{empty_line}
-use Rattle.values.proofs.Alls.{sum_on, sum_end}
 use Rattle.cache.specs.Dcache.{dirty_halves}
-use Rattle.cache.specs.Packing.{line_of, lines_of}
-use Rattle.cache.proofs.Lines.{line_zero}
-use Rattle.soundness.proofs.Clauses.{halves_sum}
+use Rattle.cache.specs.Packing.{lines_of}
 use Rattle.lines_test.proofs.dirty_halves.Given as goal
 
 abbrev pub invariant-loop-i : goal.invariant-loop-i

@@ -1,12 +1,10 @@
 use native.Mathlib.Omega.{arith}
-use Prim.Native.Nat.{◌-◌, ◌≤◌}
 use mathlib.Core.Bool.{Bool, ◌&&◌}
 use mathlib.Core.Path.{sym, ◌∙◌, ap}
 use lib.Bits.{bit_or}
 use lib.Dec.{eqb}
-use lib.ListN.{length, get_or}
-use borrow.Author.Rules.{rules}
-use Rattle.soundness.proofs.Lines.{whole, Joined, joined_start, joined_on, joined_end, part_whole, or_is_zero}
+use lib.ListN.{get_or}
+use Rattle.soundness.proofs.Lines.{whole, joined_start, joined_on, joined_end, part_whole, or_is_zero}
 use Rattle.lines_test.proofs.empties_sound.Goals as goal
 
 pub loop-i-init : goal.loop-i-init

@@ -1,12 +1,7 @@
-use native.Mathlib.Omega.{arith}
 use Prim.Native.Nat.{◌-◌, ◌≤◌}
-use mathlib.Core.Bool.{Bool, ◌&&◌}
-use mathlib.Core.Path.{sym, ◌∙◌, ap}
-use lib.Bits.{bit_or}
 use lib.Dec.{eqb}
-use lib.ListN.{length, get_or}
-use borrow.Author.Rules.{rules}
-use Rattle.soundness.proofs.Lines.{whole, Joined, joined_start, joined_on, joined_end, part_whole, or_is_zero}
+use lib.ListN.{length}
+use Rattle.soundness.proofs.Lines.{whole, Joined}
 use Rattle.lines_test.proofs.empties_sound.Given as goal
 
 abbrev pub invariant-loop-i : goal.invariant-loop-i

@@ -1,9 +1,9 @@
 use native.Mathlib.Omega.{arith}
-use Prim.Native.Nat.{◌+◌, ◌-◌, ◌%◌, ◌≤◌}
+use Prim.Native.Nat.{◌+◌, ◌%◌}
 use mathlib.Core.Path.{sym, ◌∙◌}
 use lib.Bits.{bit_or, bit_and, and_le_l}
 use lib.Dec.{eqb, ltb}
-use lib.ListN.{length, get_or}
+use lib.ListN.{get_or}
 use borrow.Author.Rules.{rules}
 use borrow.Author.Tests.{lt-ltb, le-ltb, eq-eqb}
 use Rattle.soundness.proofs.Lines.{
@@ -15,7 +15,6 @@ use Rattle.soundness.proofs.Lines.{
   end_out,
   all_in,
   odds_whole,
-  Joined,
   joined_start,
   joined_on,
   joined_end,

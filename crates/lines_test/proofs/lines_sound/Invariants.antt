@@ -1,26 +1,11 @@
-use native.Mathlib.Omega.{arith}
-use Prim.Native.Nat.{◌+◌, ◌-◌, ◌%◌, ◌≤◌}
-use mathlib.Core.Path.{sym, ◌∙◌}
-use lib.Bits.{bit_or, bit_and, and_le_l}
+use Prim.Native.Nat.{◌-◌, ◌≤◌}
 use lib.Dec.{eqb, ltb}
-use lib.ListN.{length, get_or}
-use borrow.Author.Rules.{rules}
-use borrow.Author.Tests.{lt-ltb, le-ltb, eq-eqb}
+use lib.ListN.{length}
 use Rattle.soundness.proofs.Lines.{
   fits,
   inside,
   odd,
-  spared_low,
-  tag_out,
-  end_out,
-  all_in,
-  odds_whole,
   Joined,
-  joined_start,
-  joined_on,
-  joined_end,
-  or_below,
-  and_odd,
 }
 use Rattle.lines_test.proofs.lines_sound.Given as goal
 

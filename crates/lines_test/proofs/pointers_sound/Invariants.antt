@@ -1,12 +1,8 @@
-use Rattle.soundness.proofs.Clauses.{high, low}
-use native.Mathlib.Omega.{arith}
 use Prim.Native.Nat.{◌-◌, ◌≤◌}
-use mathlib.Core.Path.{◌≡◌, refl, sym, ◌∙◌}
-use lib.ListN.{length, get_or, drop}
-use borrow.Author.Rules.{rules}
+use mathlib.Core.Path.{◌≡◌}
+use lib.ListN.{length, drop}
 use Rattle.values.specs.Lists.{all}
 use Rattle.soundness.specs.Soundness.{pointer_sound}
-use Rattle.values.proofs.Alls.{all_no, all_on, all_end}
 use Rattle.lines_test.proofs.pointers_sound.Given as goal
 
 abbrev pub invariant-loop-i : goal.invariant-loop-i

@@ -1,4 +1,3 @@
-use borrow.Author.Rules.{rules}
 use Rattle.loads.proofs.after_fill.Goals as goal
 
 pub returns-then-aborts : goal.returns-then-aborts

@@ -2,7 +2,6 @@ use Rattle.loads.proofs.Laws.{found_hit, found_none}
 use Rattle.reach.proofs.Bounds.{find_low}
 use Rattle.machine.specs.Lists.{lists, machine_of}
 use mathlib.Core.Path.{refl, sym, ◌∙◌}
-use borrow.Author.Rules.{rules}
 use Rattle.loads.proofs.load.Goals as goal
 
 pub load_hit-requires : goal.load_hit-requires

@@ -5,7 +5,6 @@ use Rattle.bus.specs.Physical.{physical}
 use Rattle.machine.specs.Lists.{lists}
 use mathlib.Core.Path.{sym, ◌∙◌}
 use native.Mathlib.Omega.{arith}
-use borrow.Author.Rules.{rules}
 use Rattle.loads.proofs.load_fill.Goals as goal
 
 pub fill-sent-requires : goal.fill-sent-requires

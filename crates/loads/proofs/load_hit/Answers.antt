@@ -1,6 +1,5 @@
 use Rattle.reach.proofs.Bounds.{in_line}
 use Rattle.loads.proofs.Laws.{hit_left}
-use borrow.Author.Rules.{rules}
 use Rattle.loads.proofs.load_hit.Goals as goal
 
 pub load-v-requires : goal.load-v-requires

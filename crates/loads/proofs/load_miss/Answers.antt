@@ -3,7 +3,6 @@ use Rattle.translation.specs.Faults.{fills}
 use Rattle.machine.specs.Lists.{lists, machine_of}
 use mathlib.Core.Bool.{true, false}
 use mathlib.Core.Path.{◌≡◌, sym, ◌∙◌}
-use borrow.Author.Rules.{rules}
 use Rattle.loads.proofs.load_miss.Goals as goal
 
 pub load_fill-requires : goal.load_fill-requires

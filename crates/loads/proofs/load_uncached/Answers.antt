@@ -3,7 +3,6 @@ use Rattle.machine.specs.Lists.{lists}
 use Rattle.reach.proofs.Bounds.{in_block, lies_inside}
 use mathlib.Core.Path.{refl}
 use native.Mathlib.Omega.{arith}
-use borrow.Author.Rules.{rules}
 use Rattle.loads.proofs.load_uncached.Goals as goal
 
 pub ready_access-used-requires : goal.ready_access-used-requires

@@ -1,7 +1,6 @@
 use Rattle.bus.proofs.Laws.{line_wanted}
 use Rattle.bus.specs.Physical.{physical}
 use mathlib.Core.Path.{sym, ◌∙◌}
-use borrow.Author.Rules.{rules}
 use Rattle.loads.proofs.wanted.Goals as goal
 
 pub returns : goal.returns

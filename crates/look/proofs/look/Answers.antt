@@ -2,7 +2,6 @@ use native.Mathlib.Omega.{arith}
 use Rattle.look.proofs.Looks.{part_inside, look_of}
 use Rattle.state.specs.State.{machine_in}
 use mathlib.Core.Path.{sym, ◌∙◌}
-use borrow.Author.Rules.{rules}
 use Rattle.look.proofs.look.Goals as goal
 
 pub line_part-requires : goal.line_part-requires

@@ -1,4 +1,3 @@
-use borrow.Author.Rules.{rules}
 use Rattle.look.proofs.mapped_line.Goals as goal
 
 pub translated-requires : goal.translated-requires

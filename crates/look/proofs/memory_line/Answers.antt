@@ -1,5 +1,4 @@
 use borrow.Author.Tests.{lt-ltb, le-ltb}
-use borrow.Author.Rules.{rules}
 use Rattle.look.proofs.memory_line.Goals as goal
 
 pub returns-then-pa-n : goal.returns-then-pa-n

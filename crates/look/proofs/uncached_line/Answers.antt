@@ -1,7 +1,6 @@
 use Rattle.values.specs.Control.{mmu}
 use mathlib.Core.Bool.{true, false}
 use mathlib.Core.Path.{◌≡◌, sym, ◌∙◌}
-use borrow.Author.Rules.{rules}
 use Rattle.look.proofs.uncached_line.Goals as goal
 
 pub returns-then-mmu : goal.returns-then-mmu

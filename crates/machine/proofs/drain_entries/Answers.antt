@@ -1,5 +1,4 @@
 use Rattle.buffer.specs.Buffer.{drained, leaving}
-use borrow.Author.Rules.{rules}
 use mathlib.Core.Path.{refl}
 use Rattle.machine.proofs.drain_entries.Goals as goal
 

@@ -1,14 +1,8 @@
-use Rattle.values.specs.Lists.{any}
-use Rattle.buffer.specs.Buffer.{meets, holds}
-use Rattle.buffer.specs.Packing.{slots_of}
+use Rattle.buffer.specs.Buffer.{holds}
 use Rattle.buffer.proofs.Holding.{hold_hit, hold_on, hold_end}
-use mathlib.Core.Path.{◌≡◌, refl, sym, ◌∙◌}
+use mathlib.Core.Path.{refl, sym, ◌∙◌}
 use native.Mathlib.Omega.{arith}
-use Prim.Native.Nat.{ℕ, ◌-◌, ◌≤◌}
-use lib.ListN.{length, take, drop}
-use mathlib.Core.List.{List}
 use borrow.Author.Rules.{rules}
-use Rattle.buffer.specs.Buffer.{buffer_from}
 use Rattle.masks.proofs.holds_access.Goals as goal
 
 pub loop-i-init : goal.loop-i-init

@@ -2,7 +2,6 @@ use Rattle.words.proofs.Widths.{is_one}
 use Rattle.buffer.specs.Packing.{slot_of}
 use Rattle.buffer.proofs.Meeting.{meets_away, meets_here}
 use mathlib.Core.Path.{sym}
-use borrow.Author.Rules.{rules}
 use Rattle.masks.proofs.meets_access.Goals as goal
 
 pub returns-then-w-pa : goal.returns-then-w-pa

@@ -1,6 +1,5 @@
 use Rattle.buffer.proofs.Closing.{ready_drained, ready_kept}
 use mathlib.Core.Path.{sym, ◌∙◌}
-use borrow.Author.Rules.{rules}
 use Rattle.masks.proofs.ready_access.Goals as goal
 
 pub returns-then-holds_access : goal.returns-then-holds_access

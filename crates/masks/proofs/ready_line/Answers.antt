@@ -1,7 +1,6 @@
 use Rattle.buffer.proofs.Closing.{ready_drained, ready_kept}
 use mathlib.Core.Path.{sym, ◌∙◌}
 use Prim.Native.Nat.{◌*◌}
-use borrow.Author.Rules.{rules}
 use Rattle.masks.proofs.ready_line.Goals as goal
 
 pub returns-then-holds_line : goal.returns-then-holds_line

@@ -1,5 +1,4 @@
 use Rattle.numbers.proofs.Entries.{entry_listed}
-use borrow.Author.Rules.{rules}
 use Rattle.numbers.proofs.entry_numbers.Goals as goal
 
 pub returns : goal.returns

@@ -1,6 +1,5 @@
 use mathlib.Core.Path.{refl}
 use Rattle.numbers.proofs.Entries.{entry_packs}
-use borrow.Author.Rules.{rules}
 use Rattle.numbers.proofs.entry_word.Goals as goal
 
 pub returns : goal.returns

@@ -1,5 +1,4 @@
 use Rattle.numbers.proofs.Lines.{line_listed}
-use borrow.Author.Rules.{rules}
 use Rattle.numbers.proofs.line_numbers.Goals as goal
 
 pub returns : goal.returns

@@ -1,7 +1,5 @@
 use borrow.Author.Rules.{rules}
-use Prim.Native.Nat.{◌-◌}
-use lib.ListN.{length}
-use Rattle.numbers.proofs.Puts.{Putting, putting_start, putting_on, putting_end}
+use Rattle.numbers.proofs.Puts.{putting_start, putting_on, putting_end}
 use Rattle.numbers.proofs.put.Goals as goal
 
 pub loop-i-init : goal.loop-i-init

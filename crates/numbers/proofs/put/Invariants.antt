@@ -1,7 +1,6 @@
-use borrow.Author.Rules.{rules}
 use Prim.Native.Nat.{◌-◌}
 use lib.ListN.{length}
-use Rattle.numbers.proofs.Puts.{Putting, putting_start, putting_on, putting_end}
+use Rattle.numbers.proofs.Puts.{Putting}
 use Rattle.numbers.proofs.put.Given as goal
 
 abbrev pub invariant-loop-i : goal.invariant-loop-i

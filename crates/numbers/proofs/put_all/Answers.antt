@@ -4,9 +4,7 @@ use Rattle.cache.specs.Packing.{line_of}
 use Rattle.buffer.proofs.Slots.{length_slots}
 use Rattle.numbers.specs.Code.{saved_in}
 use Rattle.numbers.proofs.Whole.{all_laid}
-use borrow.Author.Rules.{rules}
 use mathlib.Core.Path.{sym, ◌∙◌}
-use borrow.Author.Rules.{rules}
 use Rattle.numbers.proofs.put_all.Goals as goal
 
 pub returns : goal.returns

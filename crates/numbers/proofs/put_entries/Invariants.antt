@@ -1,18 +1,10 @@
-use Rattle.values.specs.Empty.{empty_entry}
-use Rattle.values.specs.declared.Entry.{Entry}
-use Rattle.tlb.proofs.Packing.{entry_at}
-use Rattle.tlb.specs.Packing.{entry_of}
-use borrow.Author.Rules.{rules}
-use native.Mathlib.Omega.{arith}
-use mathlib.Core.Path.{◌≡◌, refl, sym, ◌∙◌, ap}
-use Prim.Native.Nat.{◌+◌, ◌*◌, ◌-◌, ◌≤◌}
+use mathlib.Core.Path.{◌≡◌}
+use Prim.Native.Nat.{◌+◌, ◌*◌, ◌-◌}
 use lib.ListN.{length}
-use lib.ListN.{length-map}
 use Rattle.tlb.specs.Packing.{entries_of}
 use Rattle.numbers.specs.Code.{entry_line}
 use Rattle.numbers.proofs.Entries.{entry_long}
-use Rattle.numbers.proofs.Puts.{Filling, filling_start, filling_on, filling_end}
-use borrow.Author.Rules.{rules}
+use Rattle.numbers.proofs.Puts.{Filling}
 use Rattle.numbers.proofs.put_entries.Given as goal
 
 abbrev pub invariant-loop-i : goal.invariant-loop-i

@@ -1,7 +1,5 @@
 use Rattle.numbers.specs.Fields.{head_from}
 use Rattle.numbers.proofs.Heads.{head_laid}
-use borrow.Author.Rules.{rules}
-use borrow.Author.Rules.{rules}
 use Rattle.numbers.proofs.put_head.Goals as goal
 
 pub returns : goal.returns

@@ -1,18 +1,10 @@
-use Rattle.values.specs.Empty.{empty_line}
-use Rattle.values.specs.declared.Line.{Line}
-use Rattle.cache.proofs.Lines.{line_at}
-use Rattle.cache.specs.Packing.{line_of}
-use borrow.Author.Rules.{rules}
-use native.Mathlib.Omega.{arith}
-use mathlib.Core.Path.{◌≡◌, refl, sym, ◌∙◌, ap}
-use Prim.Native.Nat.{◌+◌, ◌*◌, ◌-◌, ◌≤◌}
+use mathlib.Core.Path.{◌≡◌}
+use Prim.Native.Nat.{◌+◌, ◌*◌, ◌-◌}
 use lib.ListN.{length}
-use lib.ListN.{length-map}
 use Rattle.cache.specs.Packing.{lines_of}
 use Rattle.numbers.specs.Code.{cache_line}
 use Rattle.numbers.proofs.Lines.{line_long}
-use Rattle.numbers.proofs.Puts.{Filling, filling_start, filling_on, filling_end}
-use borrow.Author.Rules.{rules}
+use Rattle.numbers.proofs.Puts.{Filling}
 use Rattle.numbers.proofs.put_lines.Given as goal
 
 abbrev pub invariant-loop-i : goal.invariant-loop-i

@@ -2,16 +2,14 @@ use mathlib.Core.List.{List, []}
 use Rattle.values.specs.Empty.{empty_slot}
 use Rattle.values.specs.declared.Slot.{Slot}
 use Rattle.buffer.proofs.Slots.{slot_at, length_slots, any_default}
-use borrow.Author.Rules.{rules}
 use native.Mathlib.Omega.{arith}
-use mathlib.Core.Path.{◌≡◌, refl, sym, ◌∙◌, ap}
-use Prim.Native.Nat.{ℕ, ◌+◌, ◌*◌, ◌-◌, ◌≤◌}
+use mathlib.Core.Path.{refl, sym, ◌∙◌, ap}
+use Prim.Native.Nat.{ℕ, ◌+◌, ◌≤◌}
 use lib.ListN.{length, get_or, replicate}
 use Rattle.buffer.specs.Packing.{slot_of, slots_of}
 use Rattle.numbers.specs.Code.{buffer_line}
 use Rattle.numbers.proofs.Slots.{slot_long}
-use Rattle.numbers.proofs.Puts.{Filling, filling_start, filling_on, filling_end}
-use borrow.Author.Rules.{rules}
+use Rattle.numbers.proofs.Puts.{filling_start, filling_on, filling_end}
 use Rattle.numbers.proofs.put_slots.Goals as goal
 
 pub loop-i-init : goal.loop-i-init

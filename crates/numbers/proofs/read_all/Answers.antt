@@ -3,9 +3,7 @@ use Rattle.values.specs.Empty.{empty_entry, empty_line, empty_slot}
 use Rattle.walk.specs.Ranges.{InRange}
 use Rattle.numbers.specs.Code.{entry_line, cache_line, buffer_line, LineHolds, SlotHolds}
 use Rattle.numbers.proofs.Whole.{all_read, no_lines_lem, no_entries_lem, things_as}
-use borrow.Author.Rules.{rules}
 use mathlib.Core.Path.{refl}
-use borrow.Author.Rules.{rules}
 use Rattle.numbers.proofs.read_all.Goals as goal
 
 pub returns-then-read_lines : goal.returns-then-read_lines

@@ -5,7 +5,7 @@ use Rattle.numbers.proofs.Heads.{pointer_step, pointers_read, head_read, head_fi
 use borrow.Author.Rules.{rules}
 use native.Mathlib.Omega.{arith}
 use mathlib.Core.Path.{◌≡◌}
-use Prim.Native.Nat.{ℕ, ◌-◌, ◌≤◌}
+use Prim.Native.Nat.{ℕ}
 use Rattle.numbers.proofs.read_head.Goals as goal
 
 pub loop-i-init : goal.loop-i-init

@@ -1,11 +1,6 @@
-use mathlib.Core.Path.{subst}
-use Rattle.values.proofs.Toward.{Toward, toward_start}
+use Rattle.values.proofs.Toward.{Toward}
 use Rattle.numbers.specs.Code.{part}
-use Rattle.numbers.proofs.Heads.{pointer_step, pointers_read, head_read, head_fits}
-use borrow.Author.Rules.{rules}
-use native.Mathlib.Omega.{arith}
-use mathlib.Core.Path.{◌≡◌}
-use Prim.Native.Nat.{ℕ, ◌-◌, ◌≤◌}
+use Prim.Native.Nat.{◌-◌, ◌≤◌}
 use Rattle.numbers.proofs.read_head.Given as goal
 
 abbrev pub invariant-loop-i : goal.invariant-loop-i

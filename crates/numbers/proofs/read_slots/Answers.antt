@@ -12,7 +12,7 @@ use Rattle.numbers.proofs.Each.{Reading, reading_start, reading_on, reading_end,
 use borrow.Author.Rules.{rules}
 use native.Mathlib.Omega.{arith}
 use mathlib.Core.Path.{◌≡◌, refl, sym, ◌∙◌, ap}
-use Prim.Native.Nat.{ℕ, ◌+◌, ◌-◌, ◌≤◌}
+use Prim.Native.Nat.{ℕ, ◌+◌, ◌≤◌}
 use lib.ListN.{length}
 use Rattle.numbers.proofs.read_slots.Goals as goal
 

@@ -1,18 +1,9 @@
-use Prim.Native.Nat.{◌<◌}
-use mathlib.Core.Path.{subst}
-use mathlib.Core.List.{List}
-use lib.ListN.{length-set}
-use Rattle.values.specs.Empty.{empty_slot}
-use Rattle.values.specs.declared.Slot.{Slot}
-use Rattle.buffer.specs.Packing.{slot_of, slots_of}
-use Rattle.buffer.proofs.Slots.{slots_set, length_slots}
-use Rattle.numbers.specs.Code.{buffer_line, part, SlotHolds}
-use Rattle.numbers.proofs.Slots.{slot_wide, slot_long, slot_good, slot_back, slot_fits, slot_unread}
-use Rattle.numbers.proofs.Each.{Reading, reading_start, reading_on, reading_end, reading_no}
-use borrow.Author.Rules.{rules}
-use native.Mathlib.Omega.{arith}
-use mathlib.Core.Path.{◌≡◌, refl, sym, ◌∙◌, ap}
-use Prim.Native.Nat.{ℕ, ◌+◌, ◌-◌, ◌≤◌}
+use Rattle.buffer.specs.Packing.{slots_of}
+use Rattle.numbers.specs.Code.{buffer_line}
+use Rattle.numbers.proofs.Slots.{slot_wide}
+use Rattle.numbers.proofs.Each.{Reading}
+use mathlib.Core.Path.{◌≡◌}
+use Prim.Native.Nat.{◌-◌}
 use lib.ListN.{length}
 use Rattle.numbers.proofs.read_slots.Given as goal
 

@@ -1,9 +1,7 @@
 use mathlib.Core.Bool.{false}
 use borrow.Author.Rules.{rules}
 use native.Mathlib.Omega.{arith}
-use mathlib.Core.Path.{◌≡◌, refl}
-use Prim.Native.Nat.{◌-◌, ◌≤◌}
-use lib.ListN.{length, take, drop}
+use mathlib.Core.Path.{refl}
 use Rattle.values.proofs.Cases.{clash}
 use Rattle.numbers.proofs.Compared.{same_on, same_no, same_end}
 use Rattle.numbers.proofs.same.Goals as goal

@@ -1,11 +1,6 @@
-use mathlib.Core.Bool.{false}
-use borrow.Author.Rules.{rules}
-use native.Mathlib.Omega.{arith}
-use mathlib.Core.Path.{◌≡◌, refl}
+use mathlib.Core.Path.{◌≡◌}
 use Prim.Native.Nat.{◌-◌, ◌≤◌}
 use lib.ListN.{length, take, drop}
-use Rattle.values.proofs.Cases.{clash}
-use Rattle.numbers.proofs.Compared.{same_on, same_no, same_end}
 use Rattle.numbers.proofs.same.Given as goal
 
 abbrev pub invariant-loop-i : goal.invariant-loop-i

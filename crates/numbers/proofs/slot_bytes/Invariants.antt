@@ -1,10 +1,7 @@
-use borrow.Author.Rules.{rules}
-use native.Mathlib.Omega.{arith}
-use mathlib.Core.Path.{◌≡◌, subst}
-use Prim.Native.Nat.{ℕ, ◌-◌, ◌≤◌}
+use Prim.Native.Nat.{◌-◌, ◌≤◌}
 use lib.ListN.{replicate}
-use Rattle.values.proofs.Toward.{Toward, toward_start}
-use Rattle.numbers.proofs.Slots.{low_cells, low_step, low_filled}
+use Rattle.values.proofs.Toward.{Toward}
+use Rattle.numbers.proofs.Slots.{low_cells}
 use Rattle.numbers.proofs.slot_bytes.Given as goal
 
 abbrev pub invariant-loop-i : goal.invariant-loop-i

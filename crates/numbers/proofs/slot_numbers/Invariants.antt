@@ -1,13 +1,8 @@
-use borrow.Author.Rules.{rules}
-use native.Mathlib.Omega.{arith}
-use mathlib.Core.Path.{◌≡◌, sym, ◌∙◌, subst}
-use Prim.Native.Nat.{ℕ, ◌-◌, ◌≤◌}
-use lib.ListN.{length, replicate}
+use Prim.Native.Nat.{◌-◌, ◌≤◌}
+use lib.ListN.{replicate}
 use mathlib.Core.List.{[], ◌∷◌, ◌++◌}
-use Rattle.buffer.specs.Packing.{slot_of}
-use Rattle.values.proofs.Toward.{Toward, toward_start}
+use Rattle.values.proofs.Toward.{Toward}
 use Rattle.numbers.proofs.Cells.{cells}
-use Rattle.numbers.proofs.Slots.{slot_step, slot_filled, slot_array, slot_numbers_are}
 use Rattle.numbers.proofs.slot_numbers.Given as goal
 
 abbrev pub invariant-loop-i : goal.invariant-loop-i

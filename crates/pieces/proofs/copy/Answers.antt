@@ -1,9 +1,8 @@
 use native.Mathlib.Omega.{arith}
 use borrow.Author.Rules.{rules}
-use Prim.Native.Nat.{◌-◌, ◌≤◌}
 use mathlib.Core.Path.{◌≡◌, refl, ◌∙◌, ap}
 use mathlib.Core.List.{◌++◌, List}
-use lib.ListN.{take, drop, length, set, get_or, length-set}
+use lib.ListN.{take, drop, set, get_or, length-set}
 use Prim.Native.Nat.{ℕ}
 use Rattle.pieces.proofs.Copying.{front_on}
 use Rattle.pieces.proofs.copy.Goals as goal

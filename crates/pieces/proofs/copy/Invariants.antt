@@ -1,11 +1,7 @@
-use native.Mathlib.Omega.{arith}
-use borrow.Author.Rules.{rules}
 use Prim.Native.Nat.{◌-◌, ◌≤◌}
-use mathlib.Core.Path.{◌≡◌, refl, ◌∙◌, ap}
-use mathlib.Core.List.{◌++◌, List}
-use lib.ListN.{take, drop, length, set, get_or, length-set}
-use Prim.Native.Nat.{ℕ}
-use Rattle.pieces.proofs.Copying.{front_on}
+use mathlib.Core.Path.{◌≡◌}
+use mathlib.Core.List.{◌++◌}
+use lib.ListN.{take, drop, length}
 use Rattle.pieces.proofs.copy.Given as goal
 
 abbrev pub invariant-loop-i : goal.invariant-loop-i

@@ -1,9 +1,5 @@
 use borrow.Author.Rules.{rules}
-use Prim.Native.Nat.{◌-◌, ◌≤◌}
-use mathlib.Core.Path.{◌≡◌, sym, ◌∙◌}
-use lib.ListN.{take, drop}
-use Rattle.values.specs.Lists.{any}
-use Rattle.pieces.specs.Pieces.{is_feed}
+use mathlib.Core.Path.{sym, ◌∙◌}
 use Rattle.pieces.proofs.Copying.{feed_first, feed_here, feed_later, feed_none}
 use Rattle.pieces.proofs.has_feed.Goals as goal
 

@@ -1,10 +1,8 @@
-use borrow.Author.Rules.{rules}
 use Prim.Native.Nat.{◌-◌, ◌≤◌}
-use mathlib.Core.Path.{◌≡◌, sym, ◌∙◌}
+use mathlib.Core.Path.{◌≡◌}
 use lib.ListN.{take, drop}
 use Rattle.values.specs.Lists.{any}
 use Rattle.pieces.specs.Pieces.{is_feed}
-use Rattle.pieces.proofs.Copying.{feed_first, feed_here, feed_later, feed_none}
 use Rattle.pieces.proofs.has_feed.Given as goal
 
 abbrev pub invariant-loop-i : goal.invariant-loop-i

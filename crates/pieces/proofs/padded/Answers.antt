@@ -1,9 +1,9 @@
 use native.Mathlib.Omega.{arith}
 use borrow.Author.Rules.{rules}
-use Prim.Native.Nat.{ℕ, ◌+◌, ◌-◌, ◌≤◌}
+use Prim.Native.Nat.{ℕ, ◌+◌, ◌-◌}
 use mathlib.Core.Path.{◌≡◌, refl, sym, ◌∙◌, ap}
 use mathlib.Core.List.{◌++◌, List}
-use lib.ListN.{take, drop, length, set, get_or, length-set, length-drop, replicate}
+use lib.ListN.{take, drop, set, get_or, length-set, length-drop, replicate}
 use lib.Seq.{get_or-drop}
 use Rattle.pieces.proofs.Copying.{front_on, padded_is}
 use Rattle.pieces.proofs.padded.Goals as goal

@@ -1,11 +1,7 @@
-use native.Mathlib.Omega.{arith}
-use borrow.Author.Rules.{rules}
-use Prim.Native.Nat.{ℕ, ◌+◌, ◌-◌, ◌≤◌}
-use mathlib.Core.Path.{◌≡◌, refl, sym, ◌∙◌, ap}
-use mathlib.Core.List.{◌++◌, List}
-use lib.ListN.{take, drop, length, set, get_or, length-set, length-drop, replicate}
-use lib.Seq.{get_or-drop}
-use Rattle.pieces.proofs.Copying.{front_on, padded_is}
+use Prim.Native.Nat.{◌-◌, ◌≤◌}
+use mathlib.Core.Path.{◌≡◌}
+use mathlib.Core.List.{◌++◌}
+use lib.ListN.{take, drop, length, replicate}
 use Rattle.pieces.proofs.padded.Given as goal
 
 abbrev pub invariant-loop-i : goal.invariant-loop-i

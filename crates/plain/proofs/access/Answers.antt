@@ -1,7 +1,6 @@
 use Rattle.plain.specs.Code.{plain_of}
 use Rattle.plain.proofs.Laws.{access_by, at_passed, at_denied, fault_steps}
 use mathlib.Core.Path.{refl, sym, ◌∙◌}
-use borrow.Author.Rules.{rules}
 use Rattle.plain.proofs.access.Goals as goal
 
 pub passed-requires : goal.passed-requires

@@ -2,7 +2,6 @@ use Rattle.refusals.proofs.Rows.{access_accepted}
 use Rattle.plain.specs.Plain.{plain_read}
 use Rattle.plain.specs.Code.{plain_of}
 use Rattle.plain.proofs.Laws.{keep_written, steps_to}
-use borrow.Author.Rules.{rules}
 use Rattle.plain.proofs.done.Goals as goal
 
 pub access-requires : goal.access-requires

@@ -1,5 +1,4 @@
 use Rattle.plain.specs.Plain.{plain_faulted}
-use borrow.Author.Rules.{rules}
 use Rattle.plain.proofs.faulted.Goals as goal
 
 pub returns : goal.returns

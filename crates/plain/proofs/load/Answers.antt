@@ -7,7 +7,6 @@ use Rattle.plain.specs.Code.{plain_of}
 use Rattle.plain.proofs.Laws.{load_answers, load_in, load_fill_lem, load_other, fault_steps}
 use mathlib.Core.Path.{◌≡◌, sym, ◌∙◌, ap}
 use mathlib.Core.Bool.{true, false}
-use borrow.Author.Rules.{rules}
 use Rattle.plain.proofs.load.Goals as goal
 
 pub returns-then-fills : goal.returns-then-fills

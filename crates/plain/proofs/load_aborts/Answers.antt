@@ -1,7 +1,6 @@
 use Rattle.plain.specs.Code.{plain_of}
 use Rattle.plain.proofs.Laws.{load_aborts_fill, load_aborts_other}
 use mathlib.Core.Path.{sym, ◌∙◌}
-use borrow.Author.Rules.{rules}
 use Rattle.plain.proofs.load_aborts.Goals as goal
 
 pub returns-then-fills : goal.returns-then-fills

@@ -2,7 +2,6 @@ use Rattle.words.specs.Signed.{load_answer}
 use Rattle.plain.proofs.Laws.{inside_fits}
 use mathlib.Core.Path.{◌∙◌, ap}
 use Prim.Native.Nat.{ℕ}
-use borrow.Author.Rules.{rules}
 use Rattle.plain.proofs.loaded.Goals as goal
 
 pub load-v-requires : goal.load-v-requires

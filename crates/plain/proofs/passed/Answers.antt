@@ -3,7 +3,6 @@ use Rattle.plain.specs.Plain.{plain_passed}
 use Rattle.plain.specs.Code.{plain_of}
 use Rattle.plain.proofs.Laws.{loads, passed_load}
 use mathlib.Core.Path.{sym, ◌∙◌, ap}
-use borrow.Author.Rules.{rules}
 use Rattle.plain.proofs.passed.Goals as goal
 
 pub returns-in-Load : goal.returns-in-Load

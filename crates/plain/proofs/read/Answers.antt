@@ -1,5 +1,4 @@
 use Rattle.plain.specs.Plain.{plain_read}
-use borrow.Author.Rules.{rules}
 use Rattle.plain.proofs.read.Goals as goal
 
 pub returns : goal.returns

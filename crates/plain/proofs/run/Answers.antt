@@ -4,7 +4,6 @@ use Rattle.trace.specs.Fold.{leaves}
 use Rattle.trace.proofs.Folds.{held_by}
 use Rattle.plain.proofs.Runs.{run_refused, run_by}
 use mathlib.Core.Path.{sym, ◌∙◌, ap}
-use borrow.Author.Rules.{rules}
 use Rattle.plain.proofs.run.Goals as goal
 
 pub run_calls-requires : goal.run_calls-requires

@@ -1,10 +1,8 @@
-use borrow.Author.Tests.{not-true, not-false}
 use Rattle.refusals.specs.Refusals.{map_fits}
-use Rattle.plain.proofs.Runs.{Going, going_start, going_on, going_stop, going_end}
+use Rattle.plain.proofs.Runs.{going_start, going_on, going_stop, going_end}
 use mathlib.Core.Path.{sym, ◌∙◌, ap}
 use native.Mathlib.Omega.{arith}
-use Prim.Native.Nat.{ℕ, ◌-◌}
-use borrow.Author.Rules.{rules}
+use Prim.Native.Nat.{ℕ}
 use Rattle.plain.proofs.run_calls.Goals as goal
 
 pub loop-i-init : goal.loop-i-init

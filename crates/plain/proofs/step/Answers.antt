@@ -1,8 +1,6 @@
-use borrow.Author.Tests.{not-true, not-false}
 use Rattle.plain.specs.Code.{plain_of}
 use Rattle.plain.proofs.Laws.{refused_map, refused_five, refused_by_lem, not_refused}
 use mathlib.Core.Path.{sym, ◌∙◌}
-use borrow.Author.Rules.{rules}
 use Rattle.plain.proofs.step.Goals as goal
 
 pub returns-then-not-fits : goal.returns-then-not-fits

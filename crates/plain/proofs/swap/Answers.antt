@@ -6,7 +6,6 @@ use Rattle.plain.specs.Code.{plain_of}
 use Rattle.plain.proofs.Laws.{swap_in, swap_other, fault_steps}
 use mathlib.Core.Path.{◌≡◌, sym, ◌∙◌, ap}
 use mathlib.Core.Bool.{true}
-use borrow.Author.Rules.{rules}
 use Rattle.plain.proofs.swap.Goals as goal
 
 pub returns-then-aborts : goal.returns-then-aborts

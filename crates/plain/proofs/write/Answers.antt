@@ -1,5 +1,4 @@
 use Rattle.plain.specs.Plain.{plain_write}
-use borrow.Author.Rules.{rules}
 use Rattle.plain.proofs.write.Goals as goal
 
 pub returns : goal.returns

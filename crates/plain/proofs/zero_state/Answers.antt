@@ -1,5 +1,4 @@
 use Rattle.plain.specs.Plain.{plain_start}
-use borrow.Author.Rules.{rules}
 use Rattle.plain.proofs.zero_state.Goals as goal
 
 pub returns : goal.returns

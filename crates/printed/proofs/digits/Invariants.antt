@@ -1,6 +1,5 @@
 use Prim.Native.Nat.{◌-◌}
-use native.Mathlib.Omega.{arith}
-use Rattle.printed.proofs.Decimal.{Counting, counting_start, counting_low, counting_fits, counting_on, counting_end}
+use Rattle.printed.proofs.Decimal.{Counting}
 use Rattle.printed.proofs.digits.Given as goal
 
 abbrev pub invariant-loop-power : goal.invariant-loop-power

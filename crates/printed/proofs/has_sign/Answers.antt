@@ -1,5 +1,4 @@
 use Rattle.printed.proofs.Steps.{and_rest}
-use borrow.Author.Rules.{rules}
 use Rattle.printed.proofs.has_sign.Goals as goal
 
 pub returns-then-signed : goal.returns-then-signed

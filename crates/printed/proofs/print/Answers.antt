@@ -1,7 +1,5 @@
-use Prim.Native.Nat.{◌-◌}
-use borrow.Author.Rules.{rules}
 use native.Mathlib.Omega.{arith}
-use Rattle.printed.proofs.Steps.{Printing, printing_start, printing_on, printing_end}
+use Rattle.printed.proofs.Steps.{printing_start, printing_on, printing_end}
 use Rattle.printed.proofs.print.Goals as goal
 
 pub loop-k-init : goal.loop-k-init

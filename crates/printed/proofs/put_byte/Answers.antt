@@ -1,4 +1,3 @@
-use borrow.Author.Rules.{rules}
 use Rattle.printed.proofs.Laying.{laid_byte}
 use Rattle.printed.proofs.put_byte.Goals as goal
 

@@ -2,7 +2,6 @@ use mathlib.Core.Path.{refl}
 use native.Mathlib.Omega.{arith}
 use Rattle.printed.proofs.Decimal.{decimal_nineteen}
 use Rattle.printed.proofs.Steps.{laid_line}
-use borrow.Author.Rules.{rules}
 use Rattle.printed.proofs.put_line.Goals as goal
 
 pub put_number-a-requires : goal.put_number-a-requires

@@ -1,7 +1,6 @@
 use mathlib.Core.Path.{refl}
-use borrow.Author.Rules.{rules}
 use native.Mathlib.Omega.{arith}
-use Rattle.printed.proofs.Steps.{Writing, writing_start, writing_on, writing_end}
+use Rattle.printed.proofs.Steps.{writing_start, writing_on, writing_end}
 use Rattle.printed.proofs.put_number.Goals as goal
 
 pub digits-requires : goal.digits-requires

@@ -1,7 +1,4 @@
-use mathlib.Core.Path.{refl}
-use borrow.Author.Rules.{rules}
-use native.Mathlib.Omega.{arith}
-use Rattle.printed.proofs.Steps.{Writing, writing_start, writing_on, writing_end}
+use Rattle.printed.proofs.Steps.{Writing}
 use Rattle.printed.proofs.put_number.Given as goal
 
 abbrev pub invariant-loop-i : goal.invariant-loop-i

@@ -1,10 +1,8 @@
 use mathlib.Core.Path.{refl}
 use Prim.Native.Nat.{◌-◌}
-use mathlib.Core.Logic.{⊎_elim}
 use native.Mathlib.Omega.{arith}
 use Rattle.printed.proofs.Decimal.{decimal_ten}
 use Rattle.printed.proofs.Steps.{value_low, value_plain, laid_digits, laid_minus}
-use borrow.Author.Rules.{rules}
 use Rattle.printed.proofs.put_value.Goals as goal
 use Rattle.printed.proofs.put_value.Goals.{then-signed+else-value-ge2147483648, else-signed}
 

@@ -1,5 +1,4 @@
 use Rattle.reach.proofs.Laws.{commit_flat, commit_held, commit_failed, commit_walked, stay, stay_missed, stay_walked}
-use borrow.Author.Rules.{rules}
 use Rattle.reach.proofs.commit.Goals as goal
 
 pub place-requires : goal.place-requires

@@ -6,7 +6,6 @@ use Rattle.bus.specs.Physical.{physical}
 use mathlib.Core.Path.{◌≡◌, sym, ◌∙◌}
 use mathlib.Core.Bool.{true, false}
 use native.Mathlib.Omega.{arith}
-use borrow.Author.Rules.{rules}
 use Rattle.reach.proofs.decide.Goals as goal
 
 pub returns-then-faults_alignment : goal.returns-then-faults_alignment

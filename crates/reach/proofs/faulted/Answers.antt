@@ -1,5 +1,4 @@
 use Rattle.reach.proofs.Laws.{faulted_left}
-use borrow.Author.Rules.{rules}
 use Rattle.reach.proofs.faulted.Goals as goal
 
 pub returns : goal.returns

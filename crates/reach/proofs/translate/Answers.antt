@@ -5,7 +5,6 @@ use mathlib.Core.Path.{sym, ◌∙◌, subst}
 use native.Mathlib.Omega.{arith}
 use Rattle.bus.specs.Physical.{physical}
 use Rattle.walk.specs.Ranges.{InRange}
-use borrow.Author.Rules.{rules}
 use Rattle.reach.proofs.translate.Goals as goal
 
 pub offset_bounds-entries-i : goal.offset_bounds-entries-i

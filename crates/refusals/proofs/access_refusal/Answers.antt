@@ -1,7 +1,6 @@
 use Rattle.values.specs.Rows.{first_met}
 use mathlib.Core.Path.{sym, ◌∙◌}
 use Rattle.refusals.proofs.Rows.{no_width, no_store_refused}
-use borrow.Author.Rules.{rules}
 use Rattle.refusals.proofs.access_refusal.Goals as goal
 
 pub store_refusal-requires : goal.store_refusal-requires

@@ -1,11 +1,6 @@
-use Rattle.refusals.proofs.MapBytes.{low, left, low_greater, low_least, low_end}
-use Rattle.values.specs.Lists.{all}
-use mathlib.Core.Logic.{⊎_elim}
-use mathlib.Core.Path.{◌≡◌, refl, sym, ◌∙◌}
+use Rattle.refusals.proofs.MapBytes.{low_greater, low_least, low_end}
+use mathlib.Core.Path.{refl, sym, ◌∙◌}
 use native.Mathlib.Omega.{arith}
-use Prim.Native.Nat.{◌-◌, ◌≤◌}
-use lib.ListN.{length}
-use borrow.Author.Rules.{rules}
 use Rattle.refusals.proofs.bytes_low.Goals as goal
 use Rattle.refusals.proofs.bytes_low.Goals.{then-most-bad, else-most-bad}
 

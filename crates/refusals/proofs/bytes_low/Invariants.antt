@@ -1,11 +1,8 @@
-use Rattle.refusals.proofs.MapBytes.{low, left, low_greater, low_least, low_end}
+use Rattle.refusals.proofs.MapBytes.{low, left}
 use Rattle.values.specs.Lists.{all}
-use mathlib.Core.Logic.{⊎_elim}
-use mathlib.Core.Path.{◌≡◌, refl, sym, ◌∙◌}
-use native.Mathlib.Omega.{arith}
+use mathlib.Core.Path.{◌≡◌}
 use Prim.Native.Nat.{◌-◌, ◌≤◌}
 use lib.ListN.{length}
-use borrow.Author.Rules.{rules}
 use Rattle.refusals.proofs.bytes_low.Given as goal
 
 abbrev pub invariant-loop-i : goal.invariant-loop-i

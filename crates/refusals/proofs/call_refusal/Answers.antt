@@ -1,5 +1,4 @@
 use Rattle.values.specs.Rows.{first_met}
-use borrow.Author.Rules.{rules}
 use Rattle.refusals.proofs.call_refusal.Goals as goal
 
 pub returns-in-Access : goal.returns-in-Access

@@ -3,7 +3,6 @@ use borrow.Author.Tests.{eq-eqb, ne_eqb}
 use mathlib.Core.Bool.{true, false}
 use mathlib.Core.Path.{◌≡◌, sym, ◌∙◌}
 use Rattle.values.specs.Rows.{first_met}
-use borrow.Author.Rules.{rules}
 use Rattle.refusals.proofs.lent_refusal.Goals as goal
 
 pub returns-then-store-eq16384 : goal.returns-then-store-eq16384

@@ -1,6 +1,5 @@
 use Rattle.refusals.proofs.MapBytes.{quarter_fits, other_length, no_quarter}
 use mathlib.Core.Path.{◌∙◌}
-use borrow.Author.Rules.{rules}
 use Rattle.refusals.proofs.map_fits.Goals as goal
 
 pub returns-then-bad-n : goal.returns-then-bad-n

@@ -4,10 +4,8 @@ use Rattle.refusals.specs.Refusals.{width_fits}
 use Rattle.values.specs.Rows.{first_met}
 use mathlib.Core.Path.{sym, ◌∙◌, ap}
 use mathlib.Core.Bool.{Bool, cond}
-use mathlib.Core.Logic.{⊎_elim}
 use borrow.Author.Tests.{ne_eqb}
 use Rattle.refusals.proofs.Rows.{swap_half, store_width, other_width, store_refused}
-use borrow.Author.Rules.{rules}
 use Rattle.refusals.proofs.store_refusal.Goals as goal
 use Rattle.refusals.proofs.store_refusal.Goals.{then-width-eq2+else-is_swap, else-width-eq2}
 

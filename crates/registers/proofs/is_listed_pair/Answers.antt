@@ -1,7 +1,6 @@
 use Rattle.registers.specs.Pairs.{is_pair}
 use mathlib.Core.Path.{◌≡◌, sym, ◌∙◌}
 use mathlib.Core.Bool.{true, false}
-use borrow.Author.Rules.{rules}
 use Rattle.registers.proofs.is_listed_pair.Goals as goal
 
 pub returns-then-is_pair : goal.returns-then-is_pair

@@ -2,7 +2,6 @@ use Rattle.registers.specs.Pairs.{is_pair}
 use mathlib.Core.Path.{◌≡◌, sym, ◌∙◌}
 use mathlib.Core.Bool.{true, false}
 use borrow.Author.Tests.{eq-eqb, ne_eqb}
-use borrow.Author.Rules.{rules}
 use Rattle.registers.proofs.is_seven_pair.Goals as goal
 
 pub returns-then-is_pair : goal.returns-then-is_pair

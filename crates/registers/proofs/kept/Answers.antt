@@ -1,6 +1,5 @@
 use Rattle.values.specs.Control.{kept}
 use mathlib.Core.Path.{refl}
-use borrow.Author.Rules.{rules}
 use Rattle.registers.proofs.kept.Goals as goal
 
 pub returns : goal.returns

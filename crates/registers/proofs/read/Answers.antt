@@ -1,7 +1,6 @@
 use Rattle.values.specs.Control.{control_read}
 use Rattle.registers.specs.Registers.{read_of}
 use borrow.Author.Tests.{ne_eqb}
-use borrow.Author.Rules.{rules}
 use Rattle.registers.proofs.read.Goals as goal
 
 pub returns-then-n-eq0 : goal.returns-then-n-eq0

@@ -1,6 +1,5 @@
 use Rattle.registers.specs.Registers.{written_of}
 use borrow.Author.Tests.{ne_eqb}
-use borrow.Author.Rules.{rules}
 use Rattle.registers.proofs.written.Goals as goal
 
 pub returns-then-n-eq1 : goal.returns-then-n-eq1

@@ -1,5 +1,3 @@
-use borrow.Author.Rules.{rules}
-use borrow.Author.Rules.{rules}
 use Rattle.replay.proofs.is_last.Goals as goal
 
 pub returns-then-ends : goal.returns-then-ends

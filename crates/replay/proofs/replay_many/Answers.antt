@@ -1,5 +1,4 @@
 use native.Mathlib.Omega.{arith}
-use borrow.Author.Rules.{rules}
 use Prim.Native.Nat.{ℕ}
 use mathlib.Core.Path.{sym, ◌∙◌, ap}
 use Rattle.fields.proofs.First.{parse_within, parse_few}
@@ -7,7 +6,6 @@ use Rattle.fields.proofs.Calls.{parse_open}
 use Rattle.replay.specs.Code.{held_of}
 use Rattle.replay.specs.Parts.{replayed}
 use Rattle.replay.proofs.Wholes.{many_is}
-use borrow.Author.Rules.{rules}
 use Rattle.replay.proofs.replay_many.Goals as goal
 
 pub settled-after-requires : goal.settled-after-requires

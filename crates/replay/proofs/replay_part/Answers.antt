@@ -1,12 +1,9 @@
 use native.Mathlib.Omega.{arith}
-use borrow.Author.Rules.{rules}
-use Prim.Native.Nat.{ℕ}
 use mathlib.Core.Path.{◌≡◌, sym, ◌∙◌}
-use lib.ListN.{length, length-map}
+use lib.ListN.{length}
 use Rattle.replay.specs.Code.{held_of, flag}
 use Rattle.held.proofs.Keeping.{kept_means}
 use Rattle.replay.proofs.Parting.{part_refused, part_waits, part_stopped, part_lines}
-use borrow.Author.Rules.{rules}
 use Rattle.replay.proofs.replay_part.Goals as goal
 
 pub slice_bounds-put_out-end : goal.slice_bounds-put_out-end

@@ -1,4 +1,3 @@
-use borrow.Author.Rules.{rules}
 use Prim.Native.Nat.{ℕ}
 use mathlib.Core.Path.{sym, ◌∙◌, ap}
 use lib.ListN.{length}
@@ -6,7 +5,6 @@ use Rattle.replay.specs.Parts.{replayed}
 use Rattle.replay.specs.Code.{held_of}
 use Rattle.held.proofs.Keeping.{kept_means}
 use Rattle.replay.proofs.Parting.{roomy, at_most_many, at_most_one}
-use borrow.Author.Rules.{rules}
 use Rattle.replay.proofs.replay_text.Goals as goal
 
 pub replay_many-requires : goal.replay_many-requires

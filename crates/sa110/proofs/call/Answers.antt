@@ -1,7 +1,6 @@
 use Rattle.step.proofs.StateRefusals.{state_refused}
 use Rattle.sa110.specs.State.{machine_in}
 use mathlib.Core.Path.{sym}
-use borrow.Author.Rules.{rules}
 use Rattle.sa110.proofs.call.Goals as goal
 
 pub returns-then-n-ne0 : goal.returns-then-n-ne0

@@ -2,7 +2,6 @@ use Rattle.step.proofs.Runs.{all_refused}
 use Rattle.step.proofs.Runs.{run_as}
 use Rattle.sa110.specs.State.{machine_in}
 use mathlib.Core.Path.{sym, ◌∙◌}
-use borrow.Author.Rules.{rules}
 use Rattle.sa110.proofs.run.Goals as goal
 
 pub returns-then-refusal-ne0 : goal.returns-then-refusal-ne0

@@ -1,6 +1,5 @@
 use mathlib.Core.Path.{sym}
 use Rattle.soundness.proofs.Clauses.{misses_high, hits_high, fills_high, halves_test}
-use borrow.Author.Rules.{rules}
 use Rattle.soundness_test.proofs.counts_sound.Goals as goal
 
 pub returns-then-c : goal.returns-then-c

@@ -1,12 +1,8 @@
 use native.Mathlib.Omega.{arith}
-use Prim.Native.Nat.{◌-◌, ◌≤◌}
-use mathlib.Core.Path.{◌≡◌, refl, sym, ◌∙◌}
-use borrow.Author.Rules.{rules}
-use lib.ListN.{length, drop}
-use Rattle.values.specs.Lists.{all}
+use mathlib.Core.Path.{refl, sym, ◌∙◌}
 use Rattle.values.specs.Empty.{empty_entry}
 use Rattle.values.proofs.Alls.{words_no, words_on, words_end}
-use Rattle.tlb.specs.Packing.{entry_of, entries_of}
+use Rattle.tlb.specs.Packing.{entry_of}
 use Rattle.soundness.specs.Soundness.{entry_sound}
 use Rattle.tlb.proofs.Packing.{entry_zero}
 use Rattle.soundness_test.proofs.entries_sound.Goals as goal

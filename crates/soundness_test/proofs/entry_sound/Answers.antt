@@ -1,7 +1,6 @@
 use native.Mathlib.Omega.{arith}
 use mathlib.Core.Path.{sym, ◌∙◌}
 use Rattle.soundness.proofs.Clauses.{entry_odd, entry_even}
-use borrow.Author.Rules.{rules}
 use Rattle.soundness_test.proofs.entry_sound.Goals as goal
 
 pub returns-then-w-eq1 : goal.returns-then-w-eq1

@@ -1,7 +1,6 @@
 use native.Mathlib.Omega.{arith}
 use mathlib.Core.Path.{sym, ◌∙◌}
 use Rattle.soundness.proofs.Clauses.{size_high, range_domain, range_physical, range_virtual}
-use borrow.Author.Rules.{rules}
 use Rattle.soundness_test.proofs.fields_sound.Goals as goal
 
 pub returns-then-size-ge3 : goal.returns-then-size-ge3

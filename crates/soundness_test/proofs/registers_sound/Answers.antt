@@ -1,7 +1,6 @@
 use native.Mathlib.Omega.{arith}
 use mathlib.Core.Path.{sym, ◌∙◌}
 use Rattle.soundness.proofs.Slots.{control_no, listed_no, base_no, fsr_test}
-use borrow.Author.Rules.{rules}
 use Rattle.soundness_test.proofs.registers_sound.Goals as goal
 
 pub returns-then-r-eq0 : goal.returns-then-r-eq0

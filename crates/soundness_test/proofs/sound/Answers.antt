@@ -8,7 +8,6 @@ use Rattle.buffer.specs.Packing.{slots_of}
 use Rattle.cache.specs.Packing.{lines_of}
 use Rattle.soundness.specs.Soundness.{line_sound, buffer_sound, sound}
 use Rattle.soundness.proofs.Clauses.{pair, pair_under}
-use borrow.Author.Rules.{rules}
 use Rattle.buffer.specs.Buffer.{buffer_from}
 use Rattle.soundness_test.proofs.sound.Goals as goal
 

@@ -1,5 +1,4 @@
 use Rattle.state.proofs.Starts.{fresh_is}
-use borrow.Author.Rules.{rules}
 use Rattle.state.proofs.fresh.Goals as goal
 
 pub returns : goal.returns

@@ -1,4 +1,3 @@
-use borrow.Author.Rules.{rules}
 use Rattle.state.proofs.is_sound.Goals as goal
 
 pub returns : goal.returns

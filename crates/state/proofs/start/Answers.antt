@@ -1,5 +1,4 @@
 use Rattle.state.proofs.Starts.{start_by, start_served, start_refused}
-use borrow.Author.Rules.{rules}
 use Rattle.state.proofs.start.Goals as goal
 
 pub returns-then-refusal-eq0 : goal.returns-then-refusal-eq0

@@ -2,7 +2,6 @@ use Rattle.step.proofs.StateRefusals.{refused_lent, refused_unsound, refused_siz
 use Rattle.state.specs.State.{machine_in}
 use lib.ListN.{length}
 use mathlib.Core.Path.{refl, sym, ◌∙◌}
-use borrow.Author.Rules.{rules}
 use Rattle.state.proofs.state_refusal.Goals as goal
 
 pub returns-then-n-ne0 : goal.returns-then-n-ne0

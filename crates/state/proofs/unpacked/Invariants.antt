@@ -1,12 +1,6 @@
-use Prim.Native.Nat.{ℕ, ◌-◌, ◌≤◌}
-use native.Mathlib.Omega.{arith}
-use borrow.Author.Rules.{rules}
-use mathlib.Core.Path.{◌≡◌, refl, ◌∙◌, subst}
-use lib.ListN.{length, length-map, replicate}
-use Rattle.values.proofs.Toward.{Toward, toward_start, toward_all}
-use Rattle.state.proofs.Packs.{unpack_step}
+use Prim.Native.Nat.{◌-◌, ◌≤◌}
+use Rattle.values.proofs.Toward.{Toward}
 use Rattle.state.specs.State.{bytes_of}
-use Rattle.state.specs.declared.SlotBytes.{SlotBytes}
 use Rattle.state.proofs.unpacked.Given as goal
 
 abbrev pub invariant-loop-i : goal.invariant-loop-i

@@ -9,7 +9,6 @@ use lib.ListN.{length}
 use Prim.Native.Nat.{◌<◌}
 use native.Mathlib.Omega.{arith}
 use mathlib.Core.Path.{sym, ◌∙◌, subst}
-use borrow.Author.Rules.{rules}
 use Rattle.step.proofs.access_step.Goals as goal
 
 pub returns-then-s-eq-COUNT_LIMIT : goal.returns-then-s-eq-COUNT_LIMIT

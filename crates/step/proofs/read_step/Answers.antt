@@ -3,7 +3,6 @@ use Rattle.machine.specs.declared.Scalars.{Scalars}
 use Rattle.values.specs.declared.Call.TheVariants.{Read}
 use Prim.Native.Nat.{◌<◌}
 use mathlib.Core.Path.{sym, ◌∙◌, subst}
-use borrow.Author.Rules.{rules}
 use Rattle.step.proofs.read_step.Goals as goal
 
 pub returns-then-s-eq-COUNT_LIMIT : goal.returns-then-s-eq-COUNT_LIMIT

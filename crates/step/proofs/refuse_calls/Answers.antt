@@ -1,7 +1,4 @@
-use Rattle.step.proofs.Runs.{Refusing, refusing_start, refusing_on, refusing_stop, refusing_end}
-use Prim.Native.Nat.{◌-◌}
-use borrow.Author.Rules.{rules}
-use borrow.Author.Tests.{not-true, not-false}
+use Rattle.step.proofs.Runs.{refusing_start, refusing_on, refusing_stop, refusing_end}
 use mathlib.Core.Path.{sym, ◌∙◌}
 use native.Mathlib.Omega.{arith}
 use Rattle.step.proofs.refuse_calls.Goals as goal

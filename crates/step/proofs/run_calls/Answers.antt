@@ -1,8 +1,6 @@
-use Prim.Native.Nat.{◌+◌, ◌-◌, ◌*◌, ◌≤◌}
+use Prim.Native.Nat.{◌+◌, ◌*◌, ◌≤◌}
 use lib.ListN.{length}
-use Rattle.step.proofs.Runs.{Going, SameLengths, going_start, going_on, going_stop, going_end, serves_now, numbers_of_lem}
-use borrow.Author.Rules.{rules}
-use borrow.Author.Tests.{not-true, not-false}
+use Rattle.step.proofs.Runs.{SameLengths, going_start, going_on, going_stop, going_end, serves_now, numbers_of_lem}
 use mathlib.Core.Path.{refl, sym, ◌∙◌}
 use native.Mathlib.Omega.{arith}
 use Rattle.machine.specs.Lists.{Lists, lists}

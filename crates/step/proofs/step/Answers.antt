@@ -1,7 +1,6 @@
 use Rattle.step.proofs.Ready.{write_ready, control_low}
 use Rattle.machine.specs.Lists.{lists}
 use lib.ListN.{length}
-use borrow.Author.Rules.{rules}
 use Rattle.step.proofs.step.Goals as goal
 
 pub read_step-requires : goal.read_step-requires

@@ -8,7 +8,6 @@ use Rattle.values.specs.declared.Transfer.{Transfer}
 use Prim.Native.Nat.{◌+◌, ◌*◌}
 use lib.ListN.{length, get_or}
 use mathlib.Core.Path.{sym, ◌∙◌, ap}
-use borrow.Author.Rules.{rules}
 use Rattle.step.proofs.step_at.Goals as goal
 
 pub read_step-requires : goal.read_step-requires

@@ -7,7 +7,6 @@ use Rattle.values.specs.declared.Call.TheVariants.{Write}
 use Prim.Native.Nat.{◌<◌}
 use native.Mathlib.Omega.{arith}
 use mathlib.Core.Path.{sym, ◌∙◌, subst}
-use borrow.Author.Rules.{rules}
 use Rattle.step.proofs.write_step.Goals as goal
 
 pub returns-then-s-eq-COUNT_LIMIT : goal.returns-then-s-eq-COUNT_LIMIT

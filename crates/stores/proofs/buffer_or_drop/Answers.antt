@@ -1,6 +1,5 @@
 use Rattle.stores.proofs.Laws.{stores_in}
 use mathlib.Core.Path.{refl, sym, ◌∙◌}
-use borrow.Author.Rules.{rules}
 use Rattle.stores.proofs.buffer_or_drop.Goals as goal
 
 pub returns-then-outside : goal.returns-then-outside

@@ -1,6 +1,5 @@
 use Rattle.stores.proofs.Laws.{buffered_left}
 use Rattle.machine.specs.Lists.{lists}
-use borrow.Author.Rules.{rules}
 use Rattle.stores.proofs.store_buffered.Goals as goal
 
 pub returns : goal.returns

@@ -2,7 +2,6 @@ use Rattle.stores.proofs.Laws.{direct_left}
 use Rattle.machine.specs.Lists.{lists}
 use Rattle.reach.proofs.Bounds.{lies_inside}
 use native.Mathlib.Omega.{arith}
-use borrow.Author.Rules.{rules}
 use Rattle.stores.proofs.store_direct.Goals as goal
 
 pub store-requires : goal.store-requires

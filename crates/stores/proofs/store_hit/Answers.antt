@@ -1,7 +1,6 @@
 use Rattle.stores.proofs.Laws.{store_hit_left}
 use Rattle.reach.proofs.Bounds.{in_line}
 use Rattle.machine.specs.Lists.{lists}
-use borrow.Author.Rules.{rules}
 use Rattle.stores.proofs.store_hit.Goals as goal
 
 pub store-requires : goal.store-requires

@@ -3,7 +3,6 @@ use Rattle.translation.specs.Faults.{buffers}
 use Rattle.machine.specs.Lists.{lists, machine_of}
 use mathlib.Core.Bool.{true, false}
 use mathlib.Core.Path.{◌≡◌, sym, ◌∙◌}
-use borrow.Author.Rules.{rules}
 use Rattle.stores.proofs.store_miss.Goals as goal
 
 pub returns-then-buffers : goal.returns-then-buffers

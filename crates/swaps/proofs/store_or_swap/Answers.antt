@@ -2,7 +2,6 @@ use Rattle.swaps.proofs.Laws.{found_swap, found_store, none_swap, none_store}
 use Rattle.reach.proofs.Bounds.{find_low}
 use Rattle.machine.specs.Lists.{lists, machine_of}
 use mathlib.Core.Path.{sym, ◌∙◌}
-use borrow.Author.Rules.{rules}
 use Rattle.swaps.proofs.store_or_swap.Goals as goal
 
 pub swap_hit-requires : goal.swap_hit-requires

@@ -2,7 +2,6 @@ use Rattle.swaps.proofs.Laws.{direct_left}
 use Rattle.machine.specs.Lists.{lists}
 use Rattle.reach.proofs.Bounds.{lies_inside}
 use native.Mathlib.Omega.{arith}
-use borrow.Author.Rules.{rules}
 use Rattle.swaps.proofs.swap_direct.Goals as goal
 
 pub load-old-requires : goal.load-old-requires

@@ -1,7 +1,6 @@
 use Rattle.swaps.proofs.Laws.{hit_by}
 use Rattle.machine.specs.Lists.{lists, machine_of, stepped_of}
 use mathlib.Core.Path.{refl}
-use borrow.Author.Rules.{rules}
 use Rattle.swaps.proofs.swap_hit.Goals as goal
 
 pub returns : goal.returns

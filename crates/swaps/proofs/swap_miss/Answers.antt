@@ -3,7 +3,6 @@ use Rattle.reach.specs.Reach as reaches
 use Rattle.machine.specs.Lists.{lists, machine_of}
 use Rattle.values.specs.declared.Status.{Status}
 use mathlib.Core.Path.{sym, ◌∙◌, ap}
-use borrow.Author.Rules.{rules}
 use Rattle.swaps.proofs.swap_miss.Goals as goal
 
 pub returns-then-aborts : goal.returns-then-aborts

@@ -1,4 +1,4 @@
-use Rattle.std.proofs.Common.{◌≡◌, ℕ, ◌+◌, ◌-◌, ◌≤◌, Bool, ◌||◌, eqb, get_or, sym, ap, ◌∙◌, arith, rules}
+use Rattle.std.proofs.Common.{◌≡◌, ℕ, ◌+◌, ◌-◌, Bool, ◌||◌, eqb, get_or, sym, ap, ◌∙◌, arith, rules}
 use Rattle.soundness.proofs.Keys.{again, again_none, again_on}
 use Rattle.tags_test.proofs.key_again.Goals as goal
 

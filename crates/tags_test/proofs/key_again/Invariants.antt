@@ -1,5 +1,5 @@
-use Rattle.std.proofs.Common.{◌≡◌, ℕ, ◌+◌, ◌-◌, ◌≤◌, Bool, ◌||◌, eqb, get_or, sym, ap, ◌∙◌, arith, rules}
-use Rattle.soundness.proofs.Keys.{again, again_none, again_on}
+use Rattle.std.proofs.Common.{◌≡◌, ◌-◌, ◌≤◌}
+use Rattle.soundness.proofs.Keys.{again}
 use Rattle.tags_test.proofs.key_again.Given as goal
 
 abbrev pub invariant-loop-d : goal.invariant-loop-d

@@ -1,4 +1,4 @@
-use Rattle.std.proofs.Common.{◌≡◌, ℕ, ◌+◌, ◌/◌, ◌%◌, ◌<◌, ap, ◌∙◌, arith, rules}
+use Rattle.std.proofs.Common.{◌≡◌, ℕ, ◌+◌, ◌/◌, ◌%◌, ◌<◌, ap, ◌∙◌, arith}
 use lib.Bits.{bit_or, bit_and, and_zero_l, or_zero_r, or_zero_l, and_comm, and_mask}
 use Rattle.tags_test.proofs.key_of.Goals as goal
 

@@ -1,4 +1,4 @@
-use Rattle.std.proofs.Common.{◌≡◌, ℕ, ◌-◌, ◌≤◌, subst, arith, rules}
+use Rattle.std.proofs.Common.{◌≡◌, ℕ, subst, arith, rules}
 use Rattle.soundness.proofs.Keys.{Told, none_told, told_on}
 use Rattle.tags_test.proofs.keys_again.Goals as goal
 

@@ -1,5 +1,5 @@
-use Rattle.std.proofs.Common.{◌≡◌, ℕ, ◌-◌, ◌≤◌, subst, arith, rules}
-use Rattle.soundness.proofs.Keys.{Told, none_told, told_on}
+use Rattle.std.proofs.Common.{◌-◌, ◌≤◌}
+use Rattle.soundness.proofs.Keys.{Told}
 use Rattle.tags_test.proofs.keys_again.Given as goal
 
 abbrev pub invariant-loop-j : goal.invariant-loop-j

@@ -1,4 +1,4 @@
-use Rattle.std.proofs.Common.{◌≡◌, ℕ, ◌-◌, ◌≤◌, refl, subst, arith, rules}
+use Rattle.std.proofs.Common.{◌≡◌, ℕ, refl, subst, arith, rules}
 use Rattle.soundness.proofs.Keys.{Keyed, none_keyed, keyed_on, keyed_round}
 use Rattle.tags_test.proofs.keys_of.Goals as goal
 

@@ -1,5 +1,5 @@
-use Rattle.std.proofs.Common.{◌≡◌, ℕ, ◌-◌, ◌≤◌, refl, subst, arith, rules}
-use Rattle.soundness.proofs.Keys.{Keyed, none_keyed, keyed_on, keyed_round}
+use Rattle.std.proofs.Common.{◌-◌, ◌≤◌}
+use Rattle.soundness.proofs.Keys.{Keyed}
 use Rattle.tags_test.proofs.keys_of.Given as goal
 
 abbrev pub invariant-loop-p : goal.invariant-loop-p

@@ -1,8 +1,7 @@
-use Rattle.std.proofs.Common.{◌≡◌, ℕ, ◌-◌, ◌*◌, ◌%◌, ◌≤◌, true, length, drop, sym, refl, ◌∙◌, subst, arith, rules}
+use Rattle.std.proofs.Common.{◌≡◌, ◌-◌, ◌*◌, ◌%◌, ◌≤◌, true, length, drop}
 use Rattle.cache.specs.Packing.{lines_of}
 use Rattle.soundness.specs.Soundness.{tags_sound}
-use Rattle.soundness.proofs.Tags.{set_apart, set_bad, set_good, sets_end}
-use Rattle.soundness.proofs.Keys.{Round, Alone, none_alone, alone_join, alone_apart, again_twice}
+use Rattle.soundness.proofs.Keys.{Alone}
 use Rattle.tags_test.proofs.tags_sound.Given as goal
 
 abbrev pub invariant-loop-p : goal.invariant-loop-p

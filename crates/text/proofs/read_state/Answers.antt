@@ -1,5 +1,4 @@
 use Rattle.numbers.specs.Text.{form, machine_with}
-use borrow.Author.Rules.{rules}
 use native.Mathlib.Omega.{arith}
 use mathlib.Core.Path.{sym, ◌∙◌, ap}
 use Rattle.values.proofs.Cases.{and-false}
@@ -7,7 +6,6 @@ use Rattle.machine.specs.Machine.{Machine}
 use Rattle.soundness.specs.Soundness.{sound}
 use Rattle.text.proofs.Holding.{unfit_unsound}
 use Rattle.text.proofs.Reading.{read_three, read_four, read_none}
-use borrow.Author.Rules.{rules}
 use Rattle.text.proofs.read_state.Goals as goal
 
 pub returns-then-state-n : goal.returns-then-state-n

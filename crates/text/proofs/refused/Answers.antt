@@ -1,8 +1,6 @@
-use borrow.Author.Rules.{rules}
 use mathlib.Core.Path.{ap}
 use Rattle.machine.specs.Machine.{Machine}
 use Rattle.step.specs.Start.{started_from}
-use borrow.Author.Rules.{rules}
 use Rattle.text.proofs.refused.Goals as goal
 
 pub returns : goal.returns

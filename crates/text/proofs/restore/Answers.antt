@@ -1,7 +1,5 @@
-use borrow.Author.Rules.{rules}
 use mathlib.Core.Path.{ap}
 use Rattle.numbers.specs.Text.{Saved, machine_with}
-use borrow.Author.Rules.{rules}
 use Rattle.text.proofs.restore.Goals as goal
 
 pub returns : goal.returns

@@ -1,9 +1,7 @@
-use borrow.Author.Rules.{rules}
 use native.Mathlib.Omega.{arith}
 use lib.ListN.{replicate}
 use Rattle.form.specs.Code.{lines_separators}
 use Rattle.text.proofs.Places.{commas_start, commas_on, long_1, long_2, long_3, separators_laid}
-use borrow.Author.Rules.{rules}
 use Rattle.text.proofs.separators.Goals as goal
 
 pub end_lines-requires-2 : goal.end_lines-requires-2

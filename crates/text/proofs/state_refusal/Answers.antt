@@ -1,10 +1,8 @@
-use borrow.Author.Rules.{rules}
 use mathlib.Core.Path.{sym, ◌∙◌, ap}
 use Prim.Native.Nat.{ℕ}
 use Rattle.refusals.specs.Refusals.{length_fits}
 use Rattle.state.specs.State.{machine_in}
 use Rattle.text.proofs.Storing.{store_one, store_three, store_four, store_none}
-use borrow.Author.Rules.{rules}
 use Rattle.text.proofs.state_refusal.Goals as goal
 
 pub returns-then-state-n : goal.returns-then-state-n

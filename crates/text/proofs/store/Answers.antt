@@ -1,4 +1,3 @@
-use borrow.Author.Rules.{rules}
 use native.Mathlib.Omega.{arith}
 use mathlib.Core.Path.{refl, sym, ◌∙◌}
 use lib.ListN.{length}
@@ -7,7 +6,6 @@ use Rattle.state.specs.State.{machine_in}
 use Rattle.step.proofs.StateRefusals.{fitting}
 use Rattle.text.proofs.Storing.{storable, stored_refused, stored_room_lem}
 use Rattle.text.proofs.Holding.{used_low}
-use borrow.Author.Rules.{rules}
 use Rattle.text.proofs.store.Goals as goal
 
 pub returns-then-n-ne0 : goal.returns-then-n-ne0

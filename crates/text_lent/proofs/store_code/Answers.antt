@@ -2,7 +2,6 @@ use mathlib.Core.Path.{ap}
 use Rattle.trace.specs.Codes.{code_of}
 use Rattle.text.specs.Store.{Stored}
 use Rattle.text_lent.specs.Codes.{stored_code}
-use borrow.Author.Rules.{rules}
 use Rattle.text_lent.proofs.store_code.Goals as goal
 
 pub returns : goal.returns

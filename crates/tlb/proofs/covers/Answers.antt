@@ -1,6 +1,5 @@
 use mathlib.Core.Path.{sym}
 use Rattle.tlb.proofs.Laws.{covers_invalid, covers_section, covers_large, covers_small}
-use borrow.Author.Rules.{rules}
 use Rattle.tlb.proofs.covers.Goals as goal
 
 pub returns-then-w-eq0 : goal.returns-then-w-eq0

@@ -1,9 +1,7 @@
 use borrow.Author.Rules.{rules}
-use mathlib.Core.Path.{◌≡◌}
 use native.Mathlib.Omega.{arith}
-use Prim.Native.Nat.{◌-◌, ◌≤◌}
-use lib.ListN.{length, length-set}
-use Rattle.values.proofs.InPlace.{Upto, upto_start}
+use lib.ListN.{length-set}
+use Rattle.values.proofs.InPlace.{upto_start}
 use Rattle.tlb.specs.Tlb.{kept_of}
 use Rattle.tlb.specs.Packing.{entries_of}
 use Rattle.tlb.proofs.Laws.{entries_step, drop_end}

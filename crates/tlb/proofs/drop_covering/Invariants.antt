@@ -1,12 +1,9 @@
-use borrow.Author.Rules.{rules}
 use mathlib.Core.Path.{◌≡◌}
-use native.Mathlib.Omega.{arith}
 use Prim.Native.Nat.{◌-◌, ◌≤◌}
-use lib.ListN.{length, length-set}
-use Rattle.values.proofs.InPlace.{Upto, upto_start}
+use lib.ListN.{length}
+use Rattle.values.proofs.InPlace.{Upto}
 use Rattle.tlb.specs.Tlb.{kept_of}
 use Rattle.tlb.specs.Packing.{entries_of}
-use Rattle.tlb.proofs.Laws.{entries_step, drop_end}
 use Rattle.tlb.proofs.drop_covering.Given as goal
 
 abbrev pub invariant-loop-i : goal.invariant-loop-i

@@ -2,7 +2,6 @@ use mathlib.Core.Path.{◌≡◌}
 use native.Mathlib.Omega.{arith}
 use Prim.Native.Nat.{◌/◌, ◌%◌}
 use Rattle.tlb.specs.Packing.{entry_of}
-use borrow.Author.Rules.{rules}
 use Rattle.tlb.proofs.entry_of.Goals as goal
 
 pub returns : goal.returns

@@ -1,6 +1,5 @@
 use mathlib.Core.Path.{sym, ◌∙◌}
 use Rattle.tlb.proofs.Keyed.{key_section, key_large, key_small, key_none}
-use borrow.Author.Rules.{rules}
 use Rattle.tlb.proofs.has_key.Goals as goal
 
 pub returns-then-n-k : goal.returns-then-n-k

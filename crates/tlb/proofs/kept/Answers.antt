@@ -1,6 +1,5 @@
 use mathlib.Core.Path.{◌∙◌}
 use Rattle.tlb.proofs.Packing.{entry_zero}
-use borrow.Author.Rules.{rules}
 use Rattle.tlb.proofs.kept.Goals as goal
 
 pub returns-then-covers : goal.returns-then-covers

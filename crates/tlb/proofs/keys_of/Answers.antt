@@ -1,6 +1,5 @@
 use mathlib.Core.Path.{refl}
 use Rattle.tlb.specs.Keyed.{keys_of}
-use borrow.Author.Rules.{rules}
 use Rattle.tlb.proofs.keys_of.Goals as goal
 
 pub returns : goal.returns

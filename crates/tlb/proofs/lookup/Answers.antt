@@ -1,14 +1,7 @@
 use borrow.Author.Rules.{rules}
-use mathlib.Core.Path.{◌≡◌, refl, sym, ◌∙◌}
+use mathlib.Core.Path.{refl, sym, ◌∙◌}
 use native.Mathlib.Omega.{arith}
-use Prim.Native.Nat.{◌-◌, ◌≤◌}
-use lib.ListN.{drop}
-use Rattle.values.specs.declared.VirtualAddress.{VirtualAddress}
-use Rattle.values.specs.Lists.{first_from}
-use Rattle.tlb.specs.Tlb.{covers}
 use Rattle.tlb.specs.Tlb as spec
-use Rattle.tlb.specs.Packing.{entries_of}
-use Rattle.tlb.specs.Keyed.{keys_of}
 use Rattle.tlb.proofs.Laws.{lookup_hit, lookup_on, lookup_end}
 use Rattle.tlb.proofs.lookup.Goals as goal
 

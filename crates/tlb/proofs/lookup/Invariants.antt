@@ -1,6 +1,4 @@
-use borrow.Author.Rules.{rules}
-use mathlib.Core.Path.{◌≡◌, refl, sym, ◌∙◌}
-use native.Mathlib.Omega.{arith}
+use mathlib.Core.Path.{◌≡◌}
 use Prim.Native.Nat.{◌-◌, ◌≤◌}
 use lib.ListN.{drop}
 use Rattle.values.specs.declared.VirtualAddress.{VirtualAddress}
@@ -9,7 +7,6 @@ use Rattle.tlb.specs.Tlb.{covers}
 use Rattle.tlb.specs.Tlb as spec
 use Rattle.tlb.specs.Packing.{entries_of}
 use Rattle.tlb.specs.Keyed.{keys_of}
-use Rattle.tlb.proofs.Laws.{lookup_hit, lookup_on, lookup_end}
 use Rattle.tlb.proofs.lookup.Given as goal
 
 abbrev pub invariant-loop-i : goal.invariant-loop-i

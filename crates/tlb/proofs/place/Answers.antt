@@ -1,5 +1,4 @@
 use Rattle.tlb.proofs.Laws.{place_at}
-use borrow.Author.Rules.{rules}
 use Rattle.tlb.proofs.place.Goals as goal
 
 pub returns : goal.returns

@@ -1,5 +1,4 @@
 use Rattle.tlb.specs.Packing.{word_of}
-use borrow.Author.Rules.{rules}
 use Rattle.tlb.proofs.word_of.Goals as goal
 
 pub returns : goal.returns

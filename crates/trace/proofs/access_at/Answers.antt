@@ -1,6 +1,5 @@
 use Rattle.values.specs.declared.Call.TheVariants as calls
 use mathlib.Core.Path.{sym, ◌∙◌, ap}
-use borrow.Author.Rules.{rules}
 use Rattle.trace.proofs.access_at.Goals as goal
 
 pub returns : goal.returns

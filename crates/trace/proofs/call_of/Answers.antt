@@ -3,7 +3,6 @@ use Rattle.values.specs.declared.Call.TheVariants.{Read, Write}
 use Rattle.values.specs.declared.Call.TheVariants as calls
 use Rattle.values.specs.declared.Transfer.{Transfer}
 use mathlib.Core.Path.{sym, ◌∙◌, ap}
-use borrow.Author.Rules.{rules}
 use Rattle.trace.proofs.call_of.Goals as goal
 
 pub returns-then-kind-eq3 : goal.returns-then-kind-eq3

@@ -1,5 +1,4 @@
 use borrow.Author.Tests.{le-leb, lt-leb}
-use borrow.Author.Rules.{rules}
 use Rattle.trace.proofs.is_call_at.Goals as goal
 
 pub returns-then-list-at-le5 : goal.returns-then-list-at-le5

@@ -1,7 +1,6 @@
 use mathlib.Core.Path.{◌≡◌, sym, ◌∙◌}
 use mathlib.Core.Bool.{true, false}
 use Rattle.values.specs.Control.{mmu, write_buffer}
-use borrow.Author.Rules.{rules}
 use Rattle.translation.proofs.buffers.Goals as goal
 
 pub returns-then-p : goal.returns-then-p

@@ -4,7 +4,6 @@ use Rattle.translation.specs.Alignment.{cleared}
 use Rattle.translation.specs.Translation.{flat_place}
 use Rattle.translation.specs.declared.Checked.TheVariants.{Passed}
 use Rattle.translation.proofs.Checks.{checked_in_lem, ranged_in}
-use borrow.Author.Rules.{rules}
 use Rattle.translation.proofs.check.Goals as goal
 
 pub check_by-requires : goal.check_by-requires

@@ -1,5 +1,4 @@
 use Rattle.translation.specs.Translation as spec
-use borrow.Author.Rules.{rules}
 use Rattle.translation.proofs.check_by.Goals as goal
 
 pub returns : goal.returns

@@ -1,6 +1,5 @@
 use Rattle.translation.specs.Alignment as aligned
 use Rattle.translation.proofs.Laws.{low_le}
-use borrow.Author.Rules.{rules}
 use Rattle.translation.proofs.cleared.Goals as goal
 
 pub overflow_sub-result : goal.overflow_sub-result

@@ -1,5 +1,4 @@
 use Rattle.translation.specs.Faults as faults
-use borrow.Author.Rules.{rules}
 use Rattle.translation.proofs.fault_set.Goals as goal
 
 pub returns : goal.returns

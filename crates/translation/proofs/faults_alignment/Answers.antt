@@ -1,7 +1,6 @@
 use Rattle.values.specs.Control.{alignment}
 use mathlib.Core.Path.{◌≡◌, sym, ◌∙◌}
 use mathlib.Core.Bool.{true, false}
-use borrow.Author.Rules.{rules}
 use Rattle.translation.proofs.faults_alignment.Goals as goal
 
 pub returns-then-alignment : goal.returns-then-alignment

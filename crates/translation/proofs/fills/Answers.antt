@@ -1,7 +1,6 @@
 use mathlib.Core.Path.{◌≡◌, sym, ◌∙◌}
 use mathlib.Core.Bool.{true, false}
 use Rattle.values.specs.Control.{mmu, dcache}
-use borrow.Author.Rules.{rules}
 use Rattle.translation.proofs.fills.Goals as goal
 
 pub returns-then-dcache : goal.returns-then-dcache

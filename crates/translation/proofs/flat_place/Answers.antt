@@ -1,4 +1,3 @@
-use borrow.Author.Rules.{rules}
 use Rattle.translation.proofs.flat_place.Goals as goal
 
 pub returns : goal.returns

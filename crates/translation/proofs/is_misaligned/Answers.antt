@@ -1,4 +1,3 @@
-use borrow.Author.Rules.{rules}
 use Rattle.translation.proofs.is_misaligned.Goals as goal
 
 pub returns : goal.returns

@@ -1,4 +1,3 @@
-use borrow.Author.Rules.{rules}
 use Rattle.translation.proofs.mapped_by.Goals as goal
 
 pub returns-in-Held : goal.returns-in-Held

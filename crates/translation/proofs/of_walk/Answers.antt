@@ -1,4 +1,3 @@
-use borrow.Author.Rules.{rules}
 use Rattle.translation.proofs.of_walk.Goals as goal
 
 pub returns-in-Found : goal.returns-in-Found

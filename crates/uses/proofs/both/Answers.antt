@@ -1,4 +1,3 @@
-use borrow.Author.Rules.{rules}
 use Rattle.uses.proofs.EndsAlike.{ends_alike}
 use Rattle.uses.proofs.both.Goals as goal
 

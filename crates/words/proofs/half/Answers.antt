@@ -1,6 +1,5 @@
 use native.Mathlib.Omega.{arith}
 use Rattle.words.proofs.Laws.{two}
-use borrow.Author.Rules.{rules}
 use Rattle.words.proofs.half.Goals as goal
 
 pub returns : goal.returns

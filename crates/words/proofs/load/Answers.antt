@@ -2,7 +2,6 @@ use native.Mathlib.Omega.{arith}
 use mathlib.Core.Path.{sym, ◌∙◌}
 use Rattle.words.proofs.Laws.{one}
 use Rattle.words.proofs.Widths.{is_one}
-use borrow.Author.Rules.{rules}
 use Rattle.words.proofs.load.Goals as goal
 
 pub returns-then-width-eq4 : goal.returns-then-width-eq4

@@ -1,7 +1,6 @@
 use native.Mathlib.Omega.{arith}
 use lib.Dec.{lit≤}
 use Rattle.words.proofs.Signs.{positive, negative}
-use borrow.Author.Rules.{rules}
 use Rattle.words.proofs.signed_byte.Goals as goal
 
 pub returns-then-x-lt128 : goal.returns-then-x-lt128

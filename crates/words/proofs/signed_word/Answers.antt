@@ -1,7 +1,6 @@
 use native.Mathlib.Omega.{arith}
 use lib.Dec.{lit≤}
 use Rattle.words.proofs.Signs.{positive, negative}
-use borrow.Author.Rules.{rules}
 use Rattle.words.proofs.signed_word.Goals as goal
 
 pub returns-then-x-lt2147483648 : goal.returns-then-x-lt2147483648
