@@ -1,4 +1,3 @@
-
 use Rattle.access_table.proofs.column.Goals as goal
 
 pub returns-then-privileged : goal.returns-then-privileged

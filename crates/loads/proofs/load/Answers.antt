@@ -5,14 +5,13 @@ use mathlib.Core.Path.{refl, sym, ◌∙◌}
 use Rattle.loads.proofs.load.Goals as goal
 
 pub load_hit-requires : goal.load_hit-requires
-load_hit-requires c =
-    (
-      c.requires.0.store_long,
-      find_low c.args.lines.now _ _ c.requires.0.lines_long
-          (sym c.find-found.ensures ∙ c.in-At.is),
-      c.requires.1,
-      c.requires.0.hits,
-    )
+load_hit-requires c = (
+  c.requires.0.store_long,
+  find_low c.args.lines.now _ _ c.requires.0.lines_long
+      (sym c.find-found.ensures ∙ c.in-At.is),
+  c.requires.1,
+  c.requires.0.hits,
+)
 
 pub returns-in-At : goal.returns-in-At
 returns-in-At c =

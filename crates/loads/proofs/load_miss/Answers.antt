@@ -35,11 +35,10 @@ returns-then-aborts c =
     }
 
 pub load_uncached-requires : goal.load_uncached-requires
-load_uncached-requires c =
-    (
-      record { fits = c.requires.0.fits; whole = c.requires.0.whole; width = c.requires.1; place = c.requires.2 },
-      sym c.aborts.ensures ∙ c.if-aborts.false,
-    )
+load_uncached-requires c = (
+  record { fits = c.requires.0.fits; whole = c.requires.0.whole; width = c.requires.1; place = c.requires.2 },
+  sym c.aborts.ensures ∙ c.if-aborts.false,
+)
 
 pub returns : goal.returns
 returns c =

@@ -25,7 +25,7 @@ pub returns : goal.returns
 returns c = let a = c.args in
     laid_digits a.out.now _ a.at _ a.value a.signed c.requires.0
     (elim c.if-signed.branch [
-      then-signed+else-value-ge2147483648 w ↦ value_low a.signed a.value w.if-value-ge2147483648.false
+      | then-signed+else-value-ge2147483648 w ↦ value_low a.signed a.value w.if-value-ge2147483648.false
       | else-signed w ↦ value_plain a.signed a.value w.if-signed.false
     ])
     c.put_number-2.ensures

@@ -13,7 +13,7 @@ loop-i-preserved c =
     let l = c.loop-i in (
       omega (arith, c.loop-i-test.true),
       elim c.if-most-bad.branch [
-        then-most-bad w ↦ rw w.most-is (low_greater bad l.i l.most c.loop-i-test.true w.if-most-bad.true ∙ l.invariant.1)
+        | then-most-bad w ↦ rw w.most-is (low_greater bad l.i l.most c.loop-i-test.true w.if-most-bad.true ∙ l.invariant.1)
         | else-most-bad w ↦ rw w.most-is (low_least bad l.i l.most c.loop-i-test.true w.if-most-bad.false ∙ l.invariant.1)
       ],
     )

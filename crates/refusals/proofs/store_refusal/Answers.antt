@@ -17,10 +17,10 @@ returns-then-is_swap c = let a = c.args in
 pub returns-then-fits_width : goal.returns-then-fits_width
 returns-then-fits_width c = let a = c.args in
     let e : width_fits a.width a.k ≡ true =
-        elim c.if-width-eq2.branch [
-          then-width-eq2+else-is_swap w ↦ store_width a.k a.width c.requires.0 (sym w.is_swap.ensures ∙ w.if-is_swap.false)
-          | else-width-eq2 w ↦ other_width a.k a.width c.requires.0 (ne_eqb _ _ w.if-width-eq2.false)
-        ]
+    elim c.if-width-eq2.branch [
+      | then-width-eq2+else-is_swap w ↦ store_width a.k a.width c.requires.0 (sym w.is_swap.ensures ∙ w.if-is_swap.false)
+      | else-width-eq2 w ↦ other_width a.k a.width c.requires.0 (ne_eqb _ _ w.if-width-eq2.false)
+    ]
     in
     sym (store_refused a.k a.width _ _ e c.requires.1 c.stored_value.ensures c.fits_width.ensures
     ∙ ap (λ (b : Bool). cond b 0 7) c.if-fits_width.true)
@@ -28,10 +28,10 @@ returns-then-fits_width c = let a = c.args in
 pub returns-else-fits_width : goal.returns-else-fits_width
 returns-else-fits_width c = let a = c.args in
     let e : width_fits a.width a.k ≡ true =
-        elim c.if-width-eq2.branch [
-          then-width-eq2+else-is_swap w ↦ store_width a.k a.width c.requires.0 (sym w.is_swap.ensures ∙ w.if-is_swap.false)
-          | else-width-eq2 w ↦ other_width a.k a.width c.requires.0 (ne_eqb _ _ w.if-width-eq2.false)
-        ]
+    elim c.if-width-eq2.branch [
+      | then-width-eq2+else-is_swap w ↦ store_width a.k a.width c.requires.0 (sym w.is_swap.ensures ∙ w.if-is_swap.false)
+      | else-width-eq2 w ↦ other_width a.k a.width c.requires.0 (ne_eqb _ _ w.if-width-eq2.false)
+    ]
     in
     sym (store_refused a.k a.width _ _ e c.requires.1 c.stored_value.ensures c.fits_width.ensures
     ∙ ap (λ (b : Bool). cond b 0 7) c.if-fits_width.false)

@@ -5,14 +5,13 @@ use mathlib.Core.Path.{sym, ◌∙◌}
 use Rattle.swaps.proofs.store_or_swap.Goals as goal
 
 pub swap_hit-requires : goal.swap_hit-requires
-swap_hit-requires c =
-    (
-      c.requires.1,
-      c.requires.2,
-      find_low c.args.lines.now _ _ c.requires.1 (sym c.find-found.ensures ∙ c.in-At.is),
-      c.requires.0.width,
-      c.requires.3,
-    )
+swap_hit-requires c = (
+  c.requires.1,
+  c.requires.2,
+  find_low c.args.lines.now _ _ c.requires.1 (sym c.find-found.ensures ∙ c.in-At.is),
+  c.requires.0.width,
+  c.requires.3,
+)
 
 pub returns-then-swaps : goal.returns-then-swaps
 returns-then-swaps c =
@@ -25,14 +24,13 @@ returns-then-swaps c =
     }
 
 pub store_hit-requires : goal.store_hit-requires
-store_hit-requires c =
-    (
-      c.requires.1,
-      c.requires.2,
-      find_low c.args.lines.now _ _ c.requires.1 (sym c.find-found.ensures ∙ c.in-At.is),
-      c.requires.0.width,
-      c.requires.3,
-    )
+store_hit-requires c = (
+  c.requires.1,
+  c.requires.2,
+  find_low c.args.lines.now _ _ c.requires.1 (sym c.find-found.ensures ∙ c.in-At.is),
+  c.requires.0.width,
+  c.requires.3,
+)
 
 pub returns-then-swaps-2 : goal.returns-then-swaps-2
 returns-then-swaps-2 c =
