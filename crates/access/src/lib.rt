@@ -6,91 +6,50 @@ ghost use Rattle.words.specs.Words.{is_width};
 ghost use Rattle.rights.specs.Rights.{rights_table};
 ghost use Rattle.translation.specs.Alignment as aligned;
 ghost use Rattle.translation.specs.Ranges.{PlaceRanged};
-ghost use Rattle.machine.specs.Lists.{lists, machine_of, stepped_of, Leaves};
+ghost use Rattle.machine.specs.Lists.{machine_of, stepped_of, Leaves, lists_of, Kept};
 ghost use Rattle.machine.specs.Machine.{Machine};
 ghost use Rattle.machine.specs.Ready.{TlbReady, SideReady};
 ghost use Rattle.access.specs.Access as spec;
 
-use machine::{Outcome, Scalars};
-use translation::{Checked, Place};
+use machine::{Lent, Outcome, Scalars};
+use translation::Place;
 use values::Access;
 
 // An access that passed, by its kind.
-fn passed(
-    memory: &mut [u8],
-    bad: &[u8],
-    words: &mut [u64],
-    bytes: &mut [[u8; 16]; 8],
-    lines: &mut [u64],
-    pointers: &mut [u32],
-    store: &mut [u8],
-    s: Scalars,
-    a: Access,
-    p: Place,
-) -> Outcome
-    requires { SideReady (lists memory.old bad.now words.old bytes.old lines.old pointers.old store.old) s
-        × (is_width a.width ≡ true) × PlaceRanged (aligned.cleared a) p }
-    ensures { Leaves (lists memory.old bad.now words.old bytes.old lines.old pointers.old
-        store.old) s
-        (lists memory.new bad.now words.new bytes.new lines.new pointers.new store.new) result
-        (λ (m : Machine). spec.passed m a p a.kind) }
+fn passed(side: &mut Lent, s: Scalars, a: Access, p: Place) -> Outcome
+    requires { SideReady (lists_of side.old) s × (is_width a.width ≡ true) × PlaceRanged (aligned.cleared a) p }
+    ensures { Leaves (lists_of side.old) s (lists_of side.new) result (λ (m : Machine). spec.passed m a p a.kind) × Kept side.old side.new }
 {
     let k = a.kind;
     if values::is_store(k) {
-        return swaps::store_or_swap(
-            memory,
-            bad,
-            words,
-            bytes,
-            lines,
-            store,
-            s,
-            a,
-            values::stored_value(k),
-            p,
-        );
+        return swaps::store_or_swap(side, s, a, values::stored_value(k), p);
     }
-    loads::load(memory, bad, words, bytes, lines, pointers, store, s, a, p)
+    loads::load(side, s, a, p)
 }
 
 // An access of width 1, 2 or 4.
 pub fn serve(
     table: &[u8; 256],
-    memory: &mut [u8],
-    bad: &[u8],
-    words: &mut [u64],
-    bytes: &mut [[u8; 16]; 8],
-    lines: &mut [u64],
-    pointers: &mut [u32],
-    store: &mut [u8],
+    side: &mut Lent,
     entries: &mut [u64],
     s: Scalars,
     a: Access,
 ) -> Outcome
-    requires { (table.now ≡ rights_table) × TlbReady entries.old s
-        × SideReady (lists memory.old bad.now words.old bytes.old lines.old pointers.old store.old) s × (is_width a.width ≡ true) }
-    ensures { ((size : ℕ)
-        → stepped_of (lists memory.new bad.now words.new bytes.new lines.new pointers.new
-        store.new)
-        entries.new size result
-        ≡ spec.access
-        (machine_of
-        (lists memory.old bad.now words.old bytes.old lines.old pointers.old
-        store.old)
-        entries.old s size)
-        a)
-        × (length bytes.new ≡ 8) }
+    requires { (table.now ≡ rights_table) × TlbReady entries.old s × SideReady (lists_of side.old) s × (is_width a.width ≡ true) }
+    ensures { ((size : ℕ) → stepped_of (lists_of side.new) entries.new size result
+        ≡ spec.access (machine_of (lists_of side.old) entries.old s size) a)
+        × (length side.new.bytes.now ≡ 8) × Kept side.old side.new }
 {
     let address = a.address;
     let r = s.cp15.registers;
+    let bad = side.bad;
+    let memory = &mut *side.memory;
     let d = reach::decide(table, memory, bad, entries, r, a);
     let t = d.mapping;
     let c = d.checked;
     let left = reach::commit(entries, s, t);
     match c {
-        Checked::Passed(p) => passed(
-            memory, bad, words, bytes, lines, pointers, store, left, a, p,
-        ),
-        Checked::Denied(status, domain) => reach::faulted(left, status, domain, address),
+        Ok(p) => passed(side, left, a, p),
+        Err(why) => reach::faulted(left, why.status, why.domain, address),
     }
 }

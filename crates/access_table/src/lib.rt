@@ -1,7 +1,7 @@
 // The access table: the 256 entries of the rights table worked out from the domain values and 001's table 2-3, and its lines of text.
 #![tactic(auto)]
 
-ghost use Rattle.std.specs.Prelude.{◌≡◌, ◌+◌, ◌≤◌, ◌<◌, length};
+ghost use Rattle.std.specs.Prelude.{◌≡◌, Bool, ◌+◌, ◌≤◌, ◌<◌, length};
 ghost use Rattle.printed.specs.Code.{Laid};
 ghost use Rattle.rights.specs.Rights.{at_index};
 ghost use Rattle.access_table.specs.Permissions as rows;
@@ -17,41 +17,28 @@ pub enum Permission {
     Unpredictable,
 }
 
-// The entries.
+// The entries. Bytes by document 01, "const array of 256 bytes": an enum would be turned into them at each entry.
 const ALLOWED: u8 = 0;
 
 const DOMAIN_FAULT: u8 = 1;
 
 const PERMISSION_FAULT: u8 = 2;
 
-// The column of a mode: Supervisor_Mode for a privileged one, or User_Mode.
-fn column(privileged: bool, supervisor: Permission, user: Permission) -> Permission
-    ensures { result ≡ rows.mode_of privileged supervisor user }
+// The columns Supervisor_Mode and User_Mode of table 2-3, by AP, S and R.
+#[tactic(auto, unfolding(crate::specs::Permissions::rows, crate::specs::Permissions::rows_for, crate::specs::Permissions::permitted))]
+fn columns(ap: u32, s: bool, r: bool) -> (Permission, Permission)
+    requires { ap < 4 }
+    ensures { (privileged : Bool) → rows.mode_of privileged result.0 result.1 ≡ rows.permitted ap s r privileged }
 {
-    if privileged {
-        return supervisor;
+    match (ap, s, r) {
+        (0, false, false) => (Permission::NoAccess, Permission::NoAccess),
+        (0, true, false) => (Permission::ReadOnly, Permission::NoAccess),
+        (0, false, true) => (Permission::ReadOnly, Permission::ReadOnly),
+        (0, true, true) => (Permission::Unpredictable, Permission::Unpredictable),
+        (1, _, _) => (Permission::ReadWrite, Permission::NoAccess),
+        (2, _, _) => (Permission::ReadWrite, Permission::ReadOnly),
+        _ => (Permission::ReadWrite, Permission::ReadWrite),
     }
-    user
-}
-
-// The rows of AP 00, by S and R.
-fn permitted_00(s: bool, r: bool, privileged: bool) -> Permission
-    ensures { result ≡ rows.permitted 0 s r privileged }
-{
-    if s {
-        if r {
-            return column(
-                privileged,
-                Permission::Unpredictable,
-                Permission::Unpredictable,
-            );
-        }
-        return column(privileged, Permission::ReadOnly, Permission::NoAccess);
-    }
-    if r {
-        return column(privileged, Permission::ReadOnly, Permission::ReadOnly);
-    }
-    column(privileged, Permission::NoAccess, Permission::NoAccess)
 }
 
 // What table 2-3 permits a mode, by AP, S and R.
@@ -59,16 +46,8 @@ fn permitted(ap: u32, s: bool, r: bool, privileged: bool) -> Permission
     requires { ap < 4 }
     ensures { result ≡ rows.permitted ap s r privileged }
 {
-    if ap == 0 {
-        return permitted_00(s, r, privileged);
-    }
-    if ap == 1 {
-        return column(privileged, Permission::ReadWrite, Permission::NoAccess);
-    }
-    if ap == 2 {
-        return column(privileged, Permission::ReadWrite, Permission::ReadOnly);
-    }
-    column(privileged, Permission::ReadWrite, Permission::ReadWrite)
+    let (supervisor, user) = columns(ap, s, r);
+    if privileged { supervisor } else { user }
 }
 
 // Whether a load, or a store, is permitted.
@@ -84,24 +63,18 @@ fn allows(permission: Permission, store: bool) -> bool
 }
 
 // The entry of an access by its domain value, its AP, S and R, its mode and its kind.
+#[tactic(auto, unfolding(crate::specs::AccessTable::access_entry))]
 fn entry(value: u32, ap: u32, s: bool, r: bool, privileged: bool, store: bool) -> u8
     requires { (value < 4) × (ap < 4) }
     ensures { result ≡ access_entry value ap s r privileged store }
 {
-    if value == 0 {
-        return DOMAIN_FAULT;
+    match value {
+        0 => DOMAIN_FAULT,
+        2 => DOMAIN_FAULT, // reserved, by table 2-4
+        3 => ALLOWED,
+        _ if allows(permitted(ap, s, r, privileged), store) => ALLOWED,
+        _ => PERMISSION_FAULT,
     }
-    if value == 2 {
-        return DOMAIN_FAULT; // reserved, by table 2-4
-    }
-    if value == 3 {
-        return ALLOWED;
-    }
-    let p = permitted(ap, s, r, privileged);
-    if allows(p, store) {
-        return ALLOWED;
-    }
-    PERMISSION_FAULT
 }
 
 // The entry at an index: domain value × 64 + AP × 16 + S × 8 + R × 4 + privileged × 2 + store.
@@ -116,23 +89,13 @@ fn entry_at(index: u32) -> u8
     entry(index / 64, index / 16 % 4, s, r, privileged, store)
 }
 
-// All entries, laid into a list of 256.
-fn fill(table: &mut [u8])
-    requires { length table.old ≡ 256 }
-    ensures { table.new ≡ access_table }
-{
-    let mut i: u32 = 0;
-    while i < 256 {
-        table[i as usize] = entry_at(i);
-        i += 1;
-    }
-}
-
 // Fills a lent array with the 256 entries, whatever it held.
 pub fn work_out(table: &mut [u8; 256])
     ensures { table.new ≡ access_table }
 {
-    fill(table);
+    for i in 0..256 {
+        table[i as usize] = entry_at(i);
+    }
 }
 
 // The line of an entry, index and entry, laid from a place on; the place behind it.
@@ -141,9 +104,9 @@ fn put_entry(out: &mut [u8], at: usize, index: u64, entry: u8) -> usize
     ensures { Laid out.old out.new at result 8 (spec.entry_line index entry) }
 {
     let a = printed::put_number(out, at, index);
-    let b = printed::put_byte(out, a, 44);
+    let b = printed::put_byte(out, a, b',');
     let c = printed::put_number(out, b, entry as u64);
-    printed::put_byte(out, c, 10)
+    printed::put_byte(out, c, b'\n')
 }
 
 // The lines of a table's entries, laid at the front of a list; how many bytes they have.
@@ -152,10 +115,8 @@ fn put_entries(out: &mut [u8], table: &[u8]) -> usize
     ensures { Laid out.old out.new 0 result 2048 (spec.entry_lines 0 table.now) }
 {
     let mut at: usize = 0;
-    let mut i: usize = 0;
-    while i < table.len() {
-        at = put_entry(out, at, i as u64, table[i]);
-        i += 1;
+    for (i, entry) in table.iter().enumerate() {
+        at = put_entry(out, at, i as u64, *entry);
     }
     at
 }

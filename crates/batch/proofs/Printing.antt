@@ -20,7 +20,7 @@ use Rattle.printed.specs.Printed.{line_of, printed}
 use Rattle.printed.specs.Code.{Laid, code_line, code_lines, Told}
 use Rattle.printed.proofs.Laying.{over_none, laid_as, laid_then, laid_within}
 use Rattle.printed.proofs.Told.{told_line, told_code, AllTold, told_lines, printed_append}
-use Rattle.fields.specs.Parse.{departing, Parsed, parse}
+use Rattle.fields.specs.Parse.{departing, verdict_number, Parsed, parse}
 use Rattle.fields.specs.Code.{LinesRead}
 use Rattle.fields.specs.declared.Parsed as read
 use Rattle.fields.proofs.First.{parse_few}
@@ -109,12 +109,12 @@ module _ (m : Machine) (ends : Bool) (n : ℕ) (text calls : List ℕ) (p : read
   pub calls_made_lem : length (answers m cs) ≡ p.made
   calls_made_lem = answers_long next answered m cs ∙ parse_calls ends n text ∙ sym l.made
 
-  few : p.verdict ≡ 2 → P.made < n
+  few : verdict_number p.verdict ≡ 2 → P.made < n
   few v = parse_room ends n text (sym l.verdict ∙ v)
 
   -- where a line departed, there is room for one more
   pub departed_room : (out middle : List ℕ) (at : ℕ) (bytes : List ℕ) → Laid out middle 0 at (p.made * 34) bytes → n * 34 ≤ length middle
-      → p.verdict ≡ 2 → at + 34 ≤ length middle
+      → verdict_number p.verdict ≡ 2 → at + 34 ≤ length middle
   departed_room out middle at bytes a w v =
       let ends = a.ends in
       let short = a.short in
@@ -148,13 +148,13 @@ module _ (m : Machine) (ends : Bool) (n : ℕ) (text calls : List ℕ) (p : read
     -- what is printed
     module _ (t : AllTold calls r.answers 0 (answers m cs)) (lines : ℕ) (out middle after : List ℕ) (at end : ℕ) (wide : n * 34 ≤ length out)
         (fits : p.made ≤ n) (a : Laid out middle 0 at (p.made * 34) (code_lines p.made (lines + 1) calls r.answers 0))
-        (b : Departed middle after at end (lines + 1 + p.made) p.verdict) where
+        (b : Departed middle after at end (lines + 1 + p.made) (verdict_number p.verdict)) where
       lines_are : code_lines p.made (lines + 1) calls r.answers 0 ≡ printed (lines + 1) (answers m cs)
       lines_are =
           ap (λ (k : ℕ). code_lines k (lines + 1) calls r.answers 0) (sym calls_made_lem) ∙ told_lines (lines + 1) calls r.answers 0 (answers m cs) t
 
       abbrev tail : List Answer
-      tail = cond (eqb p.verdict departing) refused13 []
+      tail = cond (eqb (verdict_number p.verdict) departing) refused13 []
 
       whole : printed (lines + 1) (answers m cs) ++ printed (lines + 1 + p.made) tail ≡ printed (lines + 1) (parsed_answers m P)
       whole =
@@ -162,7 +162,7 @@ module _ (m : Machine) (ends : Bool) (n : ℕ) (text calls : List ℕ) (p : read
           ∙ sym (printed_append (lines + 1) (answers m cs) tail)
           ∙ ap (λ (v : ℕ). printed (lines + 1) (answers m cs ++ cond (eqb v departing) refused13 [])) l.verdict
 
-      stops_room : p.made + stops p.verdict ≤ n
+      stops_room : p.made + stops (verdict_number p.verdict) ≤ n
       stops_room = rw (l.made, l.verdict) (made_few ends n text)
 
       pub batch_laid : Laid out after 0 end (n * 34) (printed (lines + 1) (parsed_answers m P))
@@ -170,7 +170,7 @@ module _ (m : Machine) (ends : Bool) (n : ℕ) (text calls : List ℕ) (p : read
           let xs = code_lines p.made (lines + 1) calls r.answers 0 in
           let ys = printed (lines + 1 + p.made) tail in
           let short = a.short in
-          let ab = laid_then out middle 0 at (p.made * 34) xs a after end (stops p.verdict * 34) ys (omega arith) b.laid in
-          let w : length (xs ++ ys) ≤ n * 34 = (let s = ab.short in let k : p.made + stops p.verdict ≤ n = stops_room in omega arith) in
-          laid_as out after 0 end (n * 34) (xs ++ ys) (laid_within out after 0 end (p.made * 34 + stops p.verdict * 34) (xs ++ ys) ab (n * 34) w)
+          let ab = laid_then out middle 0 at (p.made * 34) xs a after end (stops (verdict_number p.verdict) * 34) ys (omega arith) b.laid in
+          let w : length (xs ++ ys) ≤ n * 34 = (let s = ab.short in let k : p.made + stops (verdict_number p.verdict) ≤ n = stops_room in omega arith) in
+          laid_as out after 0 end (n * 34) (xs ++ ys) (laid_within out after 0 end (p.made * 34 + stops (verdict_number p.verdict) * 34) (xs ++ ys) ab (n * 34) w)
           (printed (lines + 1) (parsed_answers m P)) (ap (λ (x : List ℕ). x ++ ys) lines_are ∙ whole)

@@ -2,7 +2,7 @@
 use Rattle.std.specs.Prelude.{ℕ, ◌+◌, ◌*◌, Bool, cond, ◌≡◌, List, [], eqb}
 use Rattle.printed.specs.Printed.{printed}
 use Rattle.printed.specs.Code.{Laid}
-use Rattle.fields.specs.Parse.{parse, departing}
+use Rattle.fields.specs.Parse.{parse, departing, verdict_number}
 use Rattle.machine.specs.Machine.{Machine}
 use Rattle.sa110.specs.State.{machine_in}
 use Rattle.batch.specs.Batch.{refused13, machine_after, parsed_answers, stops}
@@ -17,5 +17,5 @@ pub record Batched (m : Machine) (ends : Bool) (lines n : ℕ) (text out : List 
   pub machine : machine_in memory bad store r.state r.cp15 ≡ machine_after m (parse ends n text)
   pub made : r.made ≡ (parse ends n text).made
   pub end : r.end ≡ (parse ends n text).end
-  pub verdict : r.verdict ≡ (parse ends n text).verdict
+  pub verdict : verdict_number r.verdict ≡ (parse ends n text).verdict
   pub laid : Laid out after 0 r.written (n * 34) (printed (lines + 1) (parsed_answers m (parse ends n text)))

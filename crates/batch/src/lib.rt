@@ -2,15 +2,15 @@
 #![tactic(auto)]
 
 ghost use Rattle.std.specs.Prelude.{◌≡◌, ◌+◌, ◌*◌, ◌≤◌, ◌<◌, length};
+ghost use Rattle.fields.specs.Parse.{verdict_number};
 ghost use Rattle.sa110.specs.State.{machine_in};
 ghost use Rattle.batch.specs.Batch as spec;
 ghost use Rattle.batch.specs.Code as code;
 
+use fields::Verdict;
+use refusals::Refusal;
 use sa110::State;
-use values::Cp15;
-
-// The code of a refusal by 13.
-const DEPARTED: u64 = 0x20000000D;
+use values::{Answer, Cp15};
 
 // What replayed lines leave beside the lent lists.
 #[derive(Clone, Copy)]
@@ -19,19 +19,22 @@ pub struct Batch {
     pub cp15: Cp15,
     pub made: usize,
     pub end: usize,
-    pub verdict: u32,
+    pub verdict: Verdict,
     pub written: usize,
 }
 
 // Where a line departed, what is printed of it, laid behind the others; the place behind them all.
-fn put_departed(out: &mut [u8], at: usize, line: u64, verdict: u32) -> usize
-    requires { (line < 10000000000000000000) × (verdict ≡ 2 → at + 34 ≤ length out.old) }
-    ensures { code.Departed out.old out.new at result line verdict }
+fn put_departed(out: &mut [u8], at: usize, line: u64, verdict: Verdict) -> usize
+    requires { (line < 10000000000000000000) × (verdict_number verdict ≡ 2 → at + 34 ≤ length out.old) }
+    ensures { code.Departed out.old out.new at result line (verdict_number verdict) }
 {
-    if verdict == fields::DEPARTS {
-        return printed::put_line(out, at, line, DEPARTED, false);
+    match verdict {
+        Verdict::Departs => {
+            let code = trace::code(Answer::Refused(u32::from(Refusal::Line)));
+            printed::put_line(out, at, line, code, false)
+        },
+        _ => at,
     }
-    at
 }
 
 // At most n lines of a text, replayed and printed.
@@ -65,12 +68,10 @@ pub fn replay_lines(
         &calls[..made * 5],
         &mut answers,
     );
-    let after = r.state;
-    let left = r.cp15;
     let written = printed::print(&calls, &answers, made, lines + 1, out);
     Batch {
-        state: after,
-        cp15: left,
+        state: r.state,
+        cp15: r.cp15,
         made,
         end: p.end,
         verdict: p.verdict,

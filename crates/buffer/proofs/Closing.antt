@@ -4,42 +4,19 @@ use native.Mathlib.Omega.{arith}
 use mathlib.Core.Bool.{true, false}
 use mathlib.Core.Path.{◌≡◌, refl, sym, ◌∙◌, ap, subst}
 use mathlib.Core.List.{List, [], ◌∷◌, ◌++◌}
-use lib.ListN.{length, length-set, length-append, length-drop, get_or, set, take, drop, replicate, drop_of_length-le, get_or-append}
-use lib.Seq.{get_or-drop, get_or-set_same, get_or-set_other, set_split, take_all}
+use lib.ListN.{length, length-set, length-append, length-drop, get_or, set, drop, replicate, get_or-append}
+use lib.Seq.{get_or-drop, get_or-set_same, get_or-set_other}
 use lib.Dec.{eqb}
 use borrow.Author.Tests.{lt-ltb, le-ltb, eqb-true, eqb-false}
 use Rattle.values.specs.Empty.{empty_slot}
 use Rattle.values.specs.declared.Slot.{Slot}
 use Rattle.values.proofs.Cases.{case}
-use Rattle.values.proofs.Toward.{Toward, toward_step}
 use Rattle.buffer.specs.Buffer.{Backing, laid, good_mask, oldest_left, behind, pushed, leaving, drained, holds, ready}
 use Rattle.buffer.specs.Packing.{slot_of, slots_of, backing_of}
 use Rattle.buffer.specs.Ranges.{Fits, Left}
 use Rattle.buffer.proofs.Slots.{slot_at, slots_set, slots_drop, slots_append}
 use Rattle.buffer.proofs.Laying.{length_laid}
 use Rattle.buffer.specs.Buffer.{buffer_from}
-
--- ---- a list whose elements behind the first move one place forward
-
-module _ {A : Type 0} (old now : List A) (i : ℕ) (t : Toward (drop 1 old) old now i) where
-  -- the element behind is as it was
-  behind_same : (d : A) → get_or now (i + 1) d ≡ get_or old (i + 1) d
-  behind_same d = sym (get_or-drop i now 1 d) ∙ ap (λ (l : List A). get_or l 1 d) t.back ∙ get_or-drop i old 1 d
-
-  pub close_step : (d : A) → i < 7 → length now ≡ 8 → Toward (drop 1 old) old (set now i (get_or now (i + 1) d)) (i + 1)
-  close_step d h n =
-      let k : length (drop 1 old) ≡ 7 = length-drop 1 old ∙ (let m : length old ≡ 8 = sym t.long ∙ n in omega arith) in
-      let e : 1 + i ≡ i + 1 = omega arith in
-      toward_step (drop 1 old) old now i t (get_or now (i + 1) d) d (omega arith) (omega arith)
-      (behind_same d ∙ ap (λ (j : ℕ). get_or old j d) (sym e) ∙ sym (get_or-drop 1 old i d))
-
-  pub close_end : (a : A) → 7 ≤ i → i ≤ 7 → length now ≡ 8 → set now 7 a ≡ drop 1 old ++ (a ∷ [])
-  close_end a h k n =
-      let j : i ≡ 7 = omega arith in
-      let f : take 7 now ≡ take 7 (drop 1 old) = subst (λ (x : ℕ). take x now ≡ take x (drop 1 old)) j t.front in
-      let l : length (drop 1 old) ≤ 7 = (let m : length old ≡ 8 = sym t.long ∙ n in rw (length-drop 1 old) (omega arith)) in
-      set_split now 7 a (omega arith) ∙ ap (λ (r : List A). take 7 now ++ (a ∷ r)) (drop_of_length-le now {i = suc 7} (omega arith))
-      ∙ ap (λ (r : List A). r ++ (a ∷ [])) (f ∙ take_all 7 (drop 1 old) l)
 
 -- ---- the oldest entry leaves
 

@@ -1,4 +1,5 @@
 -- A store that joins an entry, or takes a new one.
+use Rattle.std.specs.Prelude.{Option, Some, None}
 use Prim.Native.Nat.{ℕ, zero, suc, ◌+◌, ◌*◌, ◌/◌, ◌%◌, ◌<◌, ◌≤◌}
 use native.Mathlib.Omega.{arith}
 use mathlib.Core.Path.{◌≡◌, sym, ◌∙◌, ap}
@@ -12,8 +13,6 @@ use Rattle.values.specs.Addresses.{block_of}
 use Rattle.values.specs.Empty.{empty_slot}
 use Rattle.values.specs.declared.PhysicalAddress.{PhysicalAddress}
 use Rattle.values.specs.declared.Slot.{Slot}
-use Rattle.values.specs.declared.Search.{Search}
-use Rattle.values.specs.declared.Search.TheVariants.{At, Nothing}
 use Rattle.values.proofs.Cases.{case}
 use Rattle.words.specs.Words.{stored}
 use Rattle.buffer.specs.Buffer.{Backing, newest_of, mask_of, joined, new_slot, stored_at, buffered, pushed, half_pushed}
@@ -24,12 +23,12 @@ use Rattle.buffer.specs.Buffer.{backing_from}
 use Rattle.buffer.specs.Buffer.{buffer_from}
 
 -- the newest entry is one of those searched
-pub newest_below : (slots : List Slot) (block n i : ℕ) → newest_of slots block n ≡ At i → i < n
+pub newest_below : (slots : List Slot) (block n i : ℕ) → newest_of slots block n ≡ Some i → i < n
 unfolding newest_of
 newest_below slots block zero i e = let z : ◌≡◌ {A = ℕ} 0 1 = cc in absurd (omega arith)
 newest_below slots block (suc n) i e =
     case (eqb (get_or slots n empty_slot).block block)
-    (λ t. let f : At n ≡ At i = rw t at e in let q : n ≡ i = cc in omega arith)
+    (λ t. let f : Some n ≡ Some i = rw t at e in let q : n ≡ i = cc in omega arith)
     (λ t. let h = newest_below slots block n i (rw t at e) in omega arith)
 
 -- a mask joined to a word
@@ -48,14 +47,14 @@ module _ (m bad ws : List ℕ) (bs : List (List ℕ)) (used : ℕ) (f : Fits m w
   abbrev b : Backing
   b = backing_of m bad ws bs used
 
-  abbrev found : Search
+  abbrev found : Option ℕ
   found = newest_of (slots_of ws bs) (block_of pa) used
 
-  by_search : (x : Search) → found ≡ x → stored_at b (block_of pa) width (pa.0 % 16) v x ≡ buffered b pa width v
+  by_search : (x : Option ℕ) → found ≡ x → stored_at b (block_of pa) width (pa.0 % 16) v x ≡ buffered b pa width v
   unfolding buffered
   by_search x e = ap (stored_at b (block_of pa) width (pa.0 % 16) v) (sym e)
 
-  module _ (i : ℕ) (e : newest_of (slots_of ws bs) (block_of pa) used ≡ At i) (k : ℕ) (ek : k ≡ mask_of width (pa.0 % 16)) (hk : k < 0x10000) where
+  module _ (i : ℕ) (e : newest_of (slots_of ws bs) (block_of pa) used ≡ Some i) (k : ℕ) (ek : k ≡ mask_of width (pa.0 % 16)) (hk : k < 0x10000) where
     low : i < used
     low = newest_below (slots_of ws bs) (block_of pa) used i e
 
@@ -85,7 +84,7 @@ module _ (m bad ws : List ℕ) (bs : List (List ℕ)) (used : ℕ) (f : Fits m w
           same =
               ap (λ (l : List Slot). (backing_from m bad (buffer_from l used)))
               (slots_set ws bs i (bit_or (get_or ws i 0) k) new ∙ ap (λ (s : Slot). set (slots_of ws bs) i s) slot_joined)
-              ∙ by_search (At i) e;
+              ∙ by_search (Some i) e;
           fits = record {
             words_long = length-set ws i (bit_or (get_or ws i 0) k) ∙ f.words_long;
             bytes_long = length-set bs i new ∙ f.bytes_long;
@@ -100,7 +99,7 @@ module _ (m bad ws : List ℕ) (bs : List (List ℕ)) (used : ℕ) (f : Fits m w
         }
 
   -- no entry has the block: what a push leaves
-  module _ (e : newest_of (slots_of ws bs) (block_of pa) used ≡ Nothing) (k : ℕ) (ek : k ≡ mask_of width (pa.0 % 16)) (hk : k < 0x10000) where
+  module _ (e : newest_of (slots_of ws bs) (block_of pa) used ≡ None) (k : ℕ) (ek : k ≡ mask_of width (pa.0 % 16)) (hk : k < 0x10000) where
     pub new_inside : (block_of pa * 0x100000000 + k) / 0x100000000 * 16 + 16 ≤ length m
     new_inside = rw (word_block (block_of pa) k (omega arith)) st.inside
 
@@ -113,7 +112,7 @@ module _ (m bad ws : List ℕ) (bs : List (List ℕ)) (used : ℕ) (f : Fits m w
           ek,
           ex,
         ) in
-        record { same = l.same ∙ ap (pushed b) s ∙ by_search Nothing e; fits = l.fits }
+        record { same = l.same ∙ ap (pushed b) s ∙ by_search None e; fits = l.fits }
 
 -- a half
 pub half_left : (m bad ws : List ℕ) (bs : List (List ℕ)) (used block : ℕ) (x : List ℕ) (m' ws' : List ℕ) (bs' : List (List ℕ)) (used' : ℕ)

@@ -1,4 +1,5 @@
 -- What leaving and entering keep: memory's length, the eight places, at most eight entries, sixteen bytes in each place; and each place after them.
+use Rattle.std.specs.Prelude.{Option, Some, None}
 use Prim.Native.Nat.{ℕ, zero, suc, ◌+◌, ◌-◌, ◌*◌, ◌%◌, ◌<◌, ◌≤◌}
 use native.Mathlib.Omega.{arith}
 use mathlib.Core.Logic.{◌≢◌}
@@ -12,8 +13,6 @@ use Rattle.values.specs.Empty.{empty_slot}
 use Rattle.values.specs.Addresses.{block_of}
 use Rattle.values.specs.declared.PhysicalAddress.{PhysicalAddress}
 use Rattle.values.specs.declared.Slot.{Slot}
-use Rattle.values.specs.declared.Search.{Search}
-use Rattle.values.specs.declared.Search.TheVariants.{At, Nothing}
 use Rattle.values.proofs.Cases.{case}
 use Rattle.words.proofs.Laws.{length_stored}
 use Rattle.buffer.specs.Buffer.{
@@ -79,9 +78,9 @@ unfolding half_pushed
 memory_half b block bytes = memory_pushed b (record { block = block; mask = 0xFFFF; bytes = bytes })
 
 -- a store that joins an entry, or takes a new one
-pub memory_stored : (b : Backing) (block width offset v : ℕ) (x : Search) → length (stored_at b block width offset v x).memory ≡ length b.memory
-memory_stored b block width offset v (At i) = refl
-memory_stored b block width offset v Nothing = memory_pushed b (new_slot block width offset v)
+pub memory_stored : (b : Backing) (block width offset v : ℕ) (x : Option ℕ) → length (stored_at b block width offset v x).memory ≡ length b.memory
+memory_stored b block width offset v (Some i) = refl
+memory_stored b block width offset v None = memory_pushed b (new_slot block width offset v)
 
 -- a store that is buffered
 pub memory_buffered : (b : Backing) (pa : PhysicalAddress) (width v : ℕ) → length (buffered b pa width v).memory ≡ length b.memory
@@ -123,9 +122,9 @@ pub bad_half : (b : Backing) (block : ℕ) (bytes : List ℕ) → (half_pushed b
 unfolding half_pushed
 bad_half b block bytes = bad_pushed b (record { block = block; mask = 0xFFFF; bytes = bytes })
 
-bad_stored : (b : Backing) (block width offset v : ℕ) (x : Search) → (stored_at b block width offset v x).bad ≡ b.bad
-bad_stored b block width offset v (At i) = refl
-bad_stored b block width offset v Nothing = bad_pushed b (new_slot block width offset v)
+bad_stored : (b : Backing) (block width offset v : ℕ) (x : Option ℕ) → (stored_at b block width offset v x).bad ≡ b.bad
+bad_stored b block width offset v (Some i) = refl
+bad_stored b block width offset v None = bad_pushed b (new_slot block width offset v)
 
 pub bad_buffered : (b : Backing) (pa : PhysicalAddress) (width v : ℕ) → (buffered b pa width v).bad ≡ b.bad
 unfolding buffered
@@ -273,9 +272,9 @@ unfolding half_pushed
 shape_half b block bytes e h = shape_pushed b (record { block = block; mask = 0xFFFF; bytes = bytes }) e h
 
 -- a store that joins an entry, or takes a new one
-pub shape_stored : (b : Backing) (block width offset v : ℕ) (x : Search) → BufferShape b.buffer → BufferShape (stored_at b block width offset v x).buffer
+pub shape_stored : (b : Backing) (block width offset v : ℕ) (x : Option ℕ) → BufferShape b.buffer → BufferShape (stored_at b block width offset v x).buffer
 unfolding joined
-shape_stored b block width offset v (At i) h =
+shape_stored b block width offset v (Some i) h =
     record {
       places = length-set b.buffer.slots i (joined (slot_at b.buffer i) width offset v) ∙ h.places;
       low = h.low;
@@ -283,7 +282,7 @@ shape_stored b block width offset v (At i) h =
           sixteen_set b.buffer.slots i (joined (slot_at b.buffer i) width offset v) h.sixteen
           (length_stored width (slot_at b.buffer i).bytes offset v ∙ h.sixteen i);
     }
-shape_stored b block width offset v Nothing h =
+shape_stored b block width offset v None h =
     shape_pushed b (new_slot block width offset v) (length_stored width (replicate 16 0) offset v) h
 
 -- a store that is buffered

@@ -1,4 +1,5 @@
 -- What a store and a half do to the bytes below the cache: the bytes masked in change, and no other.
+use Rattle.std.specs.Prelude.{Option, Some, None}
 use Prim.Native.Nat.{ℕ, zero, suc, ◌+◌, ◌-◌, ◌*◌, ◌/◌, ◌%◌, ◌^◌, ◌<◌, ◌≤◌}
 use native.Mathlib.Omega.{arith}
 use native.Mathlib.Nat.{zero-add, mul-one, mul_assoc, pow-suc, zero-div}
@@ -16,8 +17,6 @@ use Rattle.values.specs.Empty.{empty_slot}
 use Rattle.values.specs.Addresses.{block_of}
 use Rattle.values.specs.declared.PhysicalAddress.{PhysicalAddress}
 use Rattle.values.specs.declared.Slot.{Slot}
-use Rattle.values.specs.declared.Search.{Search}
-use Rattle.values.specs.declared.Search.TheVariants.{At, Nothing}
 use Rattle.values.proofs.Cases.{case}
 use Rattle.words.specs.Words.{stored}
 use Rattle.words.proofs.Laws.{byte_before, byte_behind, byte_in}
@@ -197,12 +196,12 @@ as_stored bad m pa w v p h k good =
 -- ---- the entries behind the newest of a block
 
 -- each entry behind it has another block
-pub newest_later : (slots : List Slot) (block n i k : ℕ) → newest_of slots block n ≡ At i → i < k → k < n → eqb (get_or slots k empty_slot).block block ≡ false
+pub newest_later : (slots : List Slot) (block n i k : ℕ) → newest_of slots block n ≡ Some i → i < k → k < n → eqb (get_or slots k empty_slot).block block ≡ false
 unfolding newest_of
 newest_later slots block zero i k e h l = absurd (omega arith)
 newest_later slots block (suc n) i k e h l =
     case (eqb (get_or slots n empty_slot).block block)
-    (λ t. let f : At n ≡ At i = rw t at e in let q : n ≡ i = cc in absurd (omega arith))
+    (λ t. let f : Some n ≡ Some i = rw t at e in let q : n ≡ i = cc in absurd (omega arith))
     (λ t.
     case (eqb k n)
     (λ u. let q : k ≡ n = eqb-true k n u in rw q t)
@@ -212,12 +211,12 @@ newest_later slots block (suc n) i k e h l =
     under q = omega arith
 
 -- it has the block
-pub newest_block : (slots : List Slot) (block n i : ℕ) → newest_of slots block n ≡ At i → (get_or slots i empty_slot).block ≡ block
+pub newest_block : (slots : List Slot) (block n i : ℕ) → newest_of slots block n ≡ Some i → (get_or slots i empty_slot).block ≡ block
 unfolding newest_of
 newest_block slots block zero i e = let z : ◌≡◌ {A = ℕ} 0 1 = cc in absurd (omega arith)
 newest_block slots block (suc n) i e =
     case (eqb (get_or slots n empty_slot).block block)
-    (λ t. let f : At n ≡ At i = rw t at e in let q : n ≡ i = cc in subst (λ (k : ℕ). (get_or slots k empty_slot).block ≡ block) q
+    (λ t. let f : Some n ≡ Some i = rw t at e in let q : n ≡ i = cc in subst (λ (k : ℕ). (get_or slots k empty_slot).block ≡ block) q
     (eqb-true (get_or slots n empty_slot).block block t))
     (λ t. newest_block slots block n i (rw t at e))
 
@@ -247,7 +246,7 @@ place_empty l used k e h f =
 
 -- ---- "a store joins the newest entry of the same block": exactly the bytes masked in change
 
-module _ (m bad : List ℕ) (l : List Slot) (used block w o v i : ℕ) (e : newest_of l block used ≡ At i) (low : used ≤ length l) (rest : Behind l used)
+module _ (m bad : List ℕ) (l : List Slot) (used block w o v i : ℕ) (e : newest_of l block used ≡ Some i) (low : used ≤ length l) (rest : Behind l used)
     (n : length (get_or l i empty_slot).bytes ≡ 16) (h : o + w ≤ 16) where
   found : i < used
   found = newest_below l block used i e
@@ -271,7 +270,7 @@ module _ (m bad : List ℕ) (l : List Slot) (used block w o v i : ℕ) (e : newe
           (λ t. let r : s.block ≡ block = sym (eqb-true (p / 16) s.block t) ∙ q in absurd (eqb-false s.block block f r))
           (λ t. rw t)
 
-  pub joined_below : (p : ℕ) → below (stored_at (with_slots m bad l used) block w o v (At i)) p
+  pub joined_below : (p : ℕ) → below (stored_at (with_slots m bad l used) block w o v (Some i)) p
       ≡ laid_over bad (new_slot block w o v) p (below (with_slots m bad l used) p)
   joined_below p =
       let s = get_or l i empty_slot in
@@ -376,9 +375,9 @@ module _ (m bad : List ℕ) (l : List Slot) (used : ℕ) (eight : length l ≡ 8
   unfolding buffered
   buffered_below pa w v p h = by (newest_of l (block_of pa) used) refl
     where
-      by : (x : Search) → newest_of l (block_of pa) used ≡ x
+      by : (x : Option ℕ) → newest_of l (block_of pa) used ≡ x
           → below (stored_at (with_slots m bad l used) (block_of pa) w (pa.0 % 16) v x) p
           ≡ laid_over bad (new_slot (block_of pa) w (pa.0 % 16) v) p (below (with_slots m bad l used) p)
-      by (At i) e =
+      by (Some i) e =
           joined_below m bad l used (block_of pa) w (pa.0 % 16) v i e (omega arith) rest (good_at i (newest_below l (block_of pa) used i e)) h p
-      by Nothing e = pushed_below (new_slot (block_of pa) w (pa.0 % 16) v) p
+      by None e = pushed_below (new_slot (block_of pa) w (pa.0 % 16) v) p

@@ -1,6 +1,6 @@
 -- "Buffer: eight entries of sixteen bytes each, with a 16-bit mask and a block number (physical address divided by 16), oldest leaving
 -- first when full or drained; the others close up, and bytes outside the mask are zero." Document 02, Five: bytes of bad words are dropped.
-use Rattle.std.specs.Prelude.{ℕ, zero, suc, ◌+◌, ◌*◌, ◌-◌, ◌/◌, ◌%◌, ◌^◌, Bool, false, cond, ◌&&◌, ◌||◌, List, [], ◌∷◌, ◌++◌, eqb, ltb, get_or, set, take, drop, replicate}
+use Rattle.std.specs.Prelude.{ℕ, zero, suc, ◌+◌, ◌*◌, ◌-◌, ◌/◌, ◌%◌, ◌^◌, Bool, false, cond, ◌&&◌, ◌||◌, List, [], ◌∷◌, ◌++◌, eqb, ltb, get_or, set, take, drop, replicate, Option, Some, None}
 use Rattle.std.specs.Int.Bits.{bit_or}
 use Rattle.values.specs.Bits.{bit}
 use Rattle.values.specs.Lists.{any}
@@ -8,8 +8,6 @@ use Rattle.values.specs.Empty.{empty_slot}
 use Rattle.values.specs.Addresses.{block_of}
 use Rattle.values.specs.declared.PhysicalAddress.{PhysicalAddress}
 use Rattle.values.specs.declared.Slot.{Slot}
-use Rattle.values.specs.declared.Search.{Search}
-use Rattle.values.specs.declared.Search.TheVariants.{At, Nothing}
 use Rattle.words.specs.Words.{stored}
 use Rattle.bus.specs.Physical.{Physical, physical, is_bad}
 
@@ -98,9 +96,9 @@ unfoldable pub half_pushed : Backing → ℕ → List ℕ → Backing
 half_pushed b block bytes = pushed b (record { block = block; mask = 0xFFFF; bytes = bytes })
 
 -- the newest of the first n entries that has the block
-unfoldable pub newest_of : List Slot → ℕ → ℕ → Search
-newest_of slots block zero = Nothing
-newest_of slots block (suc n) = cond (eqb (get_or slots n empty_slot).block block) (At n) (newest_of slots block n)
+unfoldable pub newest_of : List Slot → ℕ → ℕ → Option ℕ
+newest_of slots block zero = None
+newest_of slots block (suc n) = cond (eqb (get_or slots n empty_slot).block block) (Some n) (newest_of slots block n)
 
 -- the mask of the bytes of an access
 abbrev pub mask_of : ℕ → ℕ → ℕ
@@ -116,10 +114,10 @@ abbrev pub new_slot : ℕ → ℕ → ℕ → ℕ → Slot
 new_slot block width offset v =
     record { block = block; mask = mask_of width offset; bytes = stored width (replicate 16 0) offset v }
 
-abbrev pub stored_at : Backing → ℕ → ℕ → ℕ → ℕ → Search → Backing
-stored_at b block width offset v (At i) =
+abbrev pub stored_at : Backing → ℕ → ℕ → ℕ → ℕ → Option ℕ → Backing
+stored_at b block width offset v (Some i) =
     with_buffer b (buffer_from (set b.buffer.slots i (joined (slot_at b.buffer i) width offset v)) b.buffer.used)
-stored_at b block width offset v Nothing = pushed b (new_slot block width offset v)
+stored_at b block width offset v None = pushed b (new_slot block width offset v)
 
 -- "A store joins the newest entry of the same block, else takes a new one"
 unfoldable pub buffered : Backing → PhysicalAddress → ℕ → ℕ → Backing

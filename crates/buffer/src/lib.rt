@@ -1,7 +1,8 @@
-// The write buffer: eight entries in front of memory, oldest first. An entry's word and its sixteen bytes are lent apart.
+// The write buffer: eight entries in front of memory, oldest first. An entry's word and its sixteen bytes are lent apart: document 01 names the array of
+// eight arrays of sixteen bytes, and a search reads the words alone.
 #![tactic(auto)]
 
-ghost use Rattle.std.specs.Prelude.{◌≡◌, [], ◌∷◌, ◌++◌, ◌+◌, ◌-◌, ◌*◌, ◌/◌, ◌%◌, ◌<◌, ◌≤◌, length, drop, replicate};
+ghost use Rattle.std.specs.Prelude.{◌≡◌, [], ◌∷◌, ◌++◌, ◌+◌, ◌-◌, ◌*◌, ◌/◌, ◌%◌, ◌<◌, ◌≤◌, length, drop};
 ghost use Rattle.buffer.specs.Buffer as spec;
 ghost use Rattle.buffer.specs.Packing.{slot_of, backing_of};
 ghost use Rattle.buffer.specs.Ranges.{Fits, Left};
@@ -12,11 +13,9 @@ fn lay(memory: &mut [u8], at: usize, mask: u32, bytes: [u8; 16])
     ensures { memory.new ≡ spec.laid memory.old at mask bytes }
 {
     let mut left = mask;
-    let mut i: usize = 0;
-    while i < 16 {
-        lay_one(memory, at + i, left, bytes[i]);
-        left = left / 2;
-        i += 1;
+    for (i, byte) in bytes.iter().enumerate() {
+        lay_one(memory, at + i, left, *byte);
+        left /= 2;
     }
 }
 
@@ -25,35 +24,18 @@ fn lay_one(memory: &mut [u8], at: usize, mask: u32, byte: u8)
     requires { at < length memory.old }
     ensures { memory.new ≡ spec.laid_one memory.old at mask byte }
 {
-    if mask / 1 % 2 == 1 {
+    if mask % 2 == 1 {
         memory[at] = byte;
     }
 }
 
-// The words behind the first close up.
-fn close_words(words: &mut [u64])
-    requires { length words.old ≡ 8 }
-    ensures { words.new ≡ drop 1 words.old ++ (0 ∷ []) }
+// The places behind the first close up, and the last is empty.
+fn close<T: Copy>(places: &mut [T], empty: T)
+    requires { length places.old ≡ 8 }
+    ensures { places.new ≡ drop 1 places.old ++ (empty ∷ []) }
 {
-    let mut i: usize = 0;
-    while i < 7 {
-        words[i] = words[i + 1];
-        i += 1;
-    }
-    words[7] = 0;
-}
-
-// The bytes behind the first entry's close up.
-fn close_bytes(bytes: &mut [[u8; 16]])
-    requires { length bytes.old ≡ 8 }
-    ensures { bytes.new ≡ drop 1 bytes.old ++ (replicate 16 0 ∷ []) }
-{
-    let mut i: usize = 0;
-    while i < 7 {
-        bytes[i] = bytes[i + 1];
-        i += 1;
-    }
-    bytes[7] = [0u8; 16];
+    places.copy_within(1..8, 0);
+    places[7] = empty;
 }
 
 // The lowest four bits of a mask, for the bytes of word w, or none where it is bad.
@@ -99,8 +81,8 @@ fn oldest_leaves(
     let block = (w / 0x100000000) as usize;
     let mask = (w % 0x100000000) as u32;
     lay(memory, block * 16, good_mask(bad, block, mask), b);
-    close_words(words);
-    close_bytes(bytes);
+    close(words, 0);
+    close(bytes, [0; 16]);
 }
 
 // A new entry behind the others; if there are eight, the oldest leaves first. It answers the number of entries.
@@ -128,6 +110,7 @@ pub fn push(
     8
 }
 
+// document 01 names the form: eight arrays of sixteen bytes, taken and given by value
 // All entries leave, oldest first. It answers the bytes that are left, all zeros where the places behind the entries were empty.
 pub fn drain(
     memory: &mut [u8],
@@ -141,10 +124,8 @@ pub fn drain(
         (spec.drained (backing_of memory.old bad.now words.old bytes used)) }
 {
     let mut left = bytes;
-    let mut n = used;
-    while 0 < n {
-        oldest_leaves(memory, bad, words, &mut left, n);
-        n -= 1;
+    for i in 0..used {
+        oldest_leaves(memory, bad, words, &mut left, used - i);
     }
     left
 }

@@ -11,25 +11,19 @@ ghost use Rattle.soundness.specs.Soundness as spec;
 fn byte_sound(mask: u64, x: u8) -> bool
     ensures { result ≡ (bit mask 0 || eqb x 0) }
 {
-    if mask % 2 == 1 {
-        return true;
-    }
-    x == 0
+    mask % 2 == 1 || x == 0
 }
 
 // Whether no byte outside the mask is other than zero.
 fn zero_outside(mask: u64, b: [u8; 16]) -> bool
     ensures { result ≡ spec.zero_outside mask b }
 {
-    let mut i: usize = 0;
     let mut rest = mask;
-    while i < 16 {
-        if byte_sound(rest, b[i]) {
-            rest = rest / 2;
-            i += 1;
-        } else {
+    for x in b {
+        if !byte_sound(rest, x) {
             return false;
         }
+        rest /= 2;
     }
     true
 }
@@ -39,26 +33,14 @@ fn slot_sound(w: u64, b: [u8; 16], n: usize) -> bool
     ensures { result ≡ spec.slot_sound n (slot_of w b) }
 {
     let mask = w % 0x100000000;
-    if w / 0x100000000 * 16 + 16 > n as u64 {
-        return false;
-    }
-    if mask == 0 {
-        return false;
-    }
-    if mask >= 0x10000 {
-        return false;
-    }
-    zero_outside(mask, b)
+    w / 0x100000000 * 16 + 16 <= n as u64 && mask != 0 && mask < 0x10000 && zero_outside(mask, b)
 }
 
 // Whether a word and its bytes are all zeros.
 fn slot_empty(w: u64, b: [u8; 16]) -> bool
     ensures { result ≡ spec.slot_empty (slot_of w b) }
 {
-    if w == 0 {
-        return zero_outside(0, b);
-    }
-    false
+    w == 0 && zero_outside(0, b)
 }
 
 // Whether a place that holds an entry holds a sound one, or one that holds none is empty.
@@ -66,9 +48,10 @@ fn place_sound(w: u64, b: [u8; 16], holds: bool, n: usize) -> bool
     ensures { result ≡ cond holds (spec.slot_sound n (slot_of w b)) (spec.slot_empty (slot_of w b)) }
 {
     if holds {
-        return slot_sound(w, b, n);
+        slot_sound(w, b, n)
+    } else {
+        slot_empty(w, b)
     }
-    slot_empty(w, b)
 }
 
 // Whether there are at most eight entries, each sound, and the places behind them are empty.
@@ -79,11 +62,8 @@ pub fn buffer_sound(words: &[u64], bytes: &[[u8; 16]], used: usize, n: usize) ->
     if used > 8 {
         return false;
     }
-    let mut i: usize = 0;
-    while i < 8 {
-        if place_sound(words[i], bytes[i], i < used, n) {
-            i += 1;
-        } else {
+    for i in 0..8 {
+        if !place_sound(words[i], bytes[i], i < used, n) {
             return false;
         }
     }

@@ -1,8 +1,11 @@
 -- Which words abort, and how far a fill reads: laws that callers cite.
+use Rattle.std.specs.Prelude.{Some, None}
 use Prim.Native.Nat.{ℕ, zero, suc, ◌+◌, ◌-◌, ◌*◌, ◌/◌, ◌%◌, ◌<◌, ◌≤◌}
 use native.Mathlib.Omega.{arith}
+use native.Mathlib.Nat.{add-zero}
 use native.Mathlib.Numerals.{add-one}
-use mathlib.Core.Bool.{true, false}
+use mathlib.Core.Bool.{Bool, true, false, ◌||◌}
+use Rattle.std.specs.List.{list_any, range_with_len}
 use mathlib.Core.Path.{◌≡◌, refl, sym, ◌∙◌, ap}
 use mathlib.Core.List.{List}
 use lib.Dec.{eqb, ltb}
@@ -14,7 +17,6 @@ use Rattle.values.proofs.Cases.{case, or_left, or_right, or_none}
 use Rattle.words.specs.Words.{value_at}
 use Rattle.bus.specs.Physical.{Physical, is_bad, outside, aborts, aborts_within, wanted_aborts, line_aborts}
 use Rattle.bus.specs.Reader.{descriptor_at}
-use Rattle.bus.specs.declared.Descriptor.TheVariants.{Word, Outside}
 
 module _ (m : Physical) (pa : PhysicalAddress) where
   -- a word that answers lies inside memory, and is not bad
@@ -49,11 +51,11 @@ module _ (m : Physical) (pa : PhysicalAddress) where
   pub aborts_behind : length m.bytes ≤ pa.0 → aborts m pa ≡ true
   aborts_behind h = outside_aborts (lt-ltb (length m.bytes) (word_of pa * 4 + 4) (omega arith))
 
-  pub descriptor_in : aborts m pa ≡ false → descriptor_at m pa ≡ Word (value_at 4 m.bytes (word_of pa * 4))
+  pub descriptor_in : aborts m pa ≡ false → descriptor_at m pa ≡ Some (value_at 4 m.bytes (word_of pa * 4))
   unfolding descriptor_at
   descriptor_in h = rw h
 
-  pub descriptor_out : aborts m pa ≡ true → descriptor_at m pa ≡ Outside
+  pub descriptor_out : aborts m pa ≡ true → descriptor_at m pa ≡ None
   unfolding descriptor_at
   descriptor_out h = rw h
 
@@ -132,6 +134,29 @@ module _ (m : Physical) (pa : PhysicalAddress) where
   pub within_next : (n : ℕ) → aborts_within m pa n ≡ false → aborts m (word_of_line pa n) ≡ false → aborts_within m pa (n + 1) ≡ false
   unfolding aborts_within
   within_next n e h = let k : n + 1 ≡ suc n = add-one n in rw (k, e, h)
+
+  -- the words in their order: the first a, and the n behind them
+  within_from : (n a : ℕ) → (aborts_within m pa a || list_any (λ i. aborts m (word_of_line pa i)) (range_with_len a n)) ≡ aborts_within m pa (a + n)
+  unfolding aborts_within
+  within_from zero a = or_nothing (aborts_within m pa a) ∙ ap (aborts_within m pa) (sym (add-zero a))
+    where
+      or_nothing : (x : Bool) → (x || false) ≡ x
+      or_nothing true = refl
+      or_nothing false = refl
+  within_from (suc n) a =
+      let e : a + 1 + n ≡ a + suc n = omega arith in
+      let k : a + 1 ≡ suc a = add-one a in
+      or_assoc (aborts_within m pa a) (aborts m (word_of_line pa a)) (list_any (λ i. aborts m (word_of_line pa i)) (range_with_len (a + 1) n))
+      ∙ ap (λ (j : ℕ). aborts_within m pa j || list_any (λ i. aborts m (word_of_line pa i)) (range_with_len (a + 1) n)) (sym k)
+      ∙ within_from n (a + 1) ∙ ap (aborts_within m pa) e
+    where
+      or_assoc : (x y z : Bool) → (x || (y || z)) ≡ ((x || y) || z)
+      or_assoc true y z = refl
+      or_assoc false y z = refl
+
+  pub within_any : (n : ℕ) → list_any (λ i. aborts m (word_of_line pa i)) (range_with_len 0 n) ≡ aborts_within m pa n
+  unfolding aborts_within
+  within_any n = let e : 0 + n ≡ n = omega arith in within_from n 0 ∙ ap (aborts_within m pa) e
 
   pub within_all : (n : ℕ) → ((k : ℕ) → k < n → aborts m (word_of_line pa k) ≡ false) → aborts_within m pa n ≡ false
   unfolding aborts_within

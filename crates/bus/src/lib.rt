@@ -9,13 +9,11 @@ ghost use Rattle.bus.specs.Reader.{descriptor_at};
 use values::PhysicalAddress;
 
 // Whether word w of a map is bad.
+#[tactic(auto, unfolding(crate::specs::Physical::is_bad))]
 pub fn is_bad(bad: &[u8], w: usize) -> bool
     ensures { result ≡ spec.is_bad bad.now w }
 {
-    if w < bad.len() {
-        return bad[w] == 1;
-    }
-    false
+    w < bad.len() && bad[w] == 1
 }
 
 // Whether the map has zeros for the four words from w on. If so, none of them is bad.
@@ -23,10 +21,7 @@ pub fn four_good(bad: &[u8], w: usize) -> bool
     requires { w < 0x4000000000000000 }
     ensures { result ≡ true → (k : ℕ) → k < 4 → spec.is_bad bad.now (w + k) ≡ false }
 {
-    if bad.len() < w + 4 {
-        return false;
-    }
-    words::word(bad, w) == 0
+    w + 4 <= bad.len() && words::word(bad, w) == 0
 }
 
 // Whether the word of an address lies outside memory.
@@ -40,10 +35,7 @@ pub fn outside(memory: &[u8], at: PhysicalAddress) -> bool
 pub fn aborts(memory: &[u8], bad: &[u8], at: PhysicalAddress) -> bool
     ensures { result ≡ spec.aborts (physical memory.now bad.now) at }
 {
-    if outside(memory, at) {
-        return true;
-    }
-    is_bad(bad, at.0 as usize / 4)
+    outside(memory, at) || is_bad(bad, at.0 as usize / 4)
 }
 
 // Whether one of the first n words of an address's line aborts.
@@ -51,14 +43,7 @@ fn aborts_within(memory: &[u8], bad: &[u8], at: PhysicalAddress, n: u32) -> bool
     requires { n ≤ 8 }
     ensures { result ≡ spec.aborts_within (physical memory.now bad.now) at n }
 {
-    let mut i: u32 = 0;
-    while i < n {
-        if aborts(memory, bad, PhysicalAddress(at.0 / 32 * 32 + i * 4)) {
-            return true;
-        }
-        i += 1;
-    }
-    false
+    (0..n).any(|i| aborts(memory, bad, PhysicalAddress(at.0 / 32 * 32 + i * 4)))
 }
 
 // Whether a word of an address's line, from its first up to the address's own, aborts.
@@ -72,10 +57,7 @@ pub fn wanted_aborts(memory: &[u8], bad: &[u8], at: PhysicalAddress) -> bool
 pub fn line_aborts(memory: &[u8], bad: &[u8], at: PhysicalAddress) -> bool
     ensures { result ≡ spec.line_aborts (physical memory.now bad.now) at }
 {
-    if line_good(memory, bad, at) {
-        return false;
-    }
-    aborts_within(memory, bad, at, 8)
+    !line_good(memory, bad, at) && aborts_within(memory, bad, at, 8)
 }
 
 // Whether an address's line lies inside memory and the map has zeros for its words. If so, none of them aborts.
@@ -86,27 +68,17 @@ fn line_good(memory: &[u8], bad: &[u8], at: PhysicalAddress) -> bool
     if memory.len() < first * 4 + 32 {
         return false;
     }
-    if four_good(bad, first) {
-        return four_good(bad, first + 4);
-    }
-    false
+    four_good(bad, first) && four_good(bad, first + 4)
 }
 
-// One descriptor word, or that it aborts.
-#[derive(Clone, Copy)]
-pub enum Descriptor {
-    Word(u32),
-    Outside,
-}
-
-// The descriptor word of a physical address.
-fn descriptor_at(memory: &[u8], bad: &[u8], at: PhysicalAddress) -> Descriptor
+// The descriptor word of a physical address, or none where it aborts.
+fn descriptor_at(memory: &[u8], bad: &[u8], at: PhysicalAddress) -> Option<u32>
     ensures { result ≡ descriptor_at (physical memory.now bad.now) at }
 {
     if aborts(memory, bad, at) {
-        Descriptor::Outside
+        None
     } else {
-        Descriptor::Word(words::word(memory, at.0 as usize / 4 * 4))
+        Some(words::word(memory, at.0 as usize / 4 * 4))
     }
 }
 
@@ -118,14 +90,14 @@ pub struct Bus<'a> {
 }
 
 // The descriptor word of a physical address, of a reader.
-fn bus_descriptor<'a>(bus: Bus<'a>, at: PhysicalAddress) -> Descriptor
+fn bus_descriptor<'a>(bus: Bus<'a>, at: PhysicalAddress) -> Option<u32>
     ensures { result ≡ descriptor_at (physical bus.entry.memory.now bus.entry.bad.now) at }
 {
     descriptor_at(bus.memory, bus.bad, at)
 }
 
 // The descriptor word of a physical address, through a reader over the slices: what the walk calls.
-pub fn descriptor_of(memory: &[u8], bad: &[u8], at: PhysicalAddress) -> Descriptor
+pub fn descriptor_of(memory: &[u8], bad: &[u8], at: PhysicalAddress) -> Option<u32>
     ensures { result ≡ descriptor_at (physical memory.now bad.now) at }
 {
     bus_descriptor(Bus { memory, bad }, at)

@@ -1,4 +1,5 @@
 -- The number of dirty halves of the Dcache's lines, after each operation.
+use Rattle.std.specs.Prelude.{Option, Some, None}
 use Prim.Native.Nat.{ℕ, ◌+◌, ◌≤◌}
 use native.Mathlib.Omega.{arith}
 use mathlib.Core.Path.{◌≡◌, refl}
@@ -12,8 +13,6 @@ use Rattle.values.specs.Addresses.{offset_of, tag_of, physical_line}
 use Rattle.values.specs.declared.VirtualAddress.{VirtualAddress}
 use Rattle.values.specs.declared.PhysicalAddress.{PhysicalAddress}
 use Rattle.values.specs.declared.Line.{Line}
-use Rattle.values.specs.declared.Search.{Search}
-use Rattle.values.specs.declared.Search.TheVariants.{At, Nothing}
 use Rattle.values.proofs.Cases.{case, number_low}
 use Rattle.values.proofs.Sums.{sum_more, sum_out, sum_replicate}
 use Rattle.cache.specs.Dcache.{
@@ -67,11 +66,11 @@ fill_dirties s va pa =
     (λ t. rw (t, set-set s.cache.lines i empty_line new) (sum_out dirty_halves s.cache.lines i new empty_line refl refl))
 
 -- a clean: the line's dirty halves are sent out
-pub clean_at_dirties : (s : Side) (x : Search)
+pub clean_at_dirties : (s : Side) (x : Option ℕ)
     → (cleaned_at s x).halves + sum dirty_halves (cleaned_at s x).side.cache.lines ≡ sum dirty_halves s.cache.lines
 unfolding cleaned_at
-clean_at_dirties s Nothing = omega arith
-clean_at_dirties s (At i) = sum_out dirty_halves s.cache.lines i (clean_line (line_at s.cache i)) empty_line refl refl
+clean_at_dirties s None = omega arith
+clean_at_dirties s (Some i) = sum_out dirty_halves s.cache.lines i (clean_line (line_at s.cache i)) empty_line refl refl
 
 -- the same of the line of an address
 pub clean_dirties : (s : Side) (va : VirtualAddress)
@@ -80,10 +79,10 @@ unfolding cleaned
 clean_dirties s va = clean_at_dirties s (find s.cache.lines va)
 
 -- a flush of one line makes no half dirty
-pub flush_at_dirties : (c : Dcache) (x : Search) → sum dirty_halves (flushed_at c x).lines ≤ sum dirty_halves c.lines
+pub flush_at_dirties : (c : Dcache) (x : Option ℕ) → sum dirty_halves (flushed_at c x).lines ≤ sum dirty_halves c.lines
 unfolding flushed_at
-flush_at_dirties c Nothing = omega arith
-flush_at_dirties c (At i) = let e = sum_out dirty_halves c.lines i empty_line empty_line refl refl in omega arith
+flush_at_dirties c None = omega arith
+flush_at_dirties c (Some i) = let e = sum_out dirty_halves c.lines i empty_line empty_line refl refl in omega arith
 
 -- the same of the line of an address
 pub flush_dirties : (c : Dcache) (va : VirtualAddress) → sum dirty_halves (line_flushed c va).lines ≤ sum dirty_halves c.lines

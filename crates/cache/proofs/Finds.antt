@@ -1,4 +1,5 @@
 -- What the search of a set says, and when it says it.
+use Rattle.std.specs.Prelude.{Option, Some, None}
 use Prim.Native.Nat.{ℕ, ◌+◌, ◌-◌, ◌*◌, ◌/◌, ◌<◌, ◌≤◌, min}
 use native.Mathlib.Omega.{arith}
 use mathlib.Core.Bool.{true, false}
@@ -12,8 +13,6 @@ use Rattle.values.specs.Empty.{empty_line}
 use Rattle.values.specs.Addresses.{set_of, tag_of}
 use Rattle.values.specs.declared.VirtualAddress.{VirtualAddress}
 use Rattle.values.specs.declared.Line.{Line}
-use Rattle.values.specs.declared.Search.{Search}
-use Rattle.values.specs.declared.Search.TheVariants.{At, Nothing}
 use Rattle.values.proofs.Cases.{case, clash, and_left, and_right}
 use Rattle.values.proofs.Searches.{matched, unmatched}
 use Rattle.values.proofs.Firsts.{first_at, first_none}
@@ -59,7 +58,7 @@ module _ (lines : List Line) (va : VirtualAddress) where
       quotient s f g = omega arith
 
   -- a line that is found is the first that matches
-  pub found : (i : ℕ) → find lines va ≡ At i → Found lines va i
+  pub found : (i : ℕ) → find lines va ≡ Some i → Found lines va i
   unfolding find
   found i e =
       let m = matched (matches va) base ways empty_line i e in
@@ -79,7 +78,7 @@ module _ (lines : List Line) (va : VirtualAddress) where
       }
 
   -- where none is found, none matches
-  pub missed : find lines va ≡ Nothing → Missed lines va
+  pub missed : find lines va ≡ None → Missed lines va
   unfolding find
   missed e j h k =
       case (ltb (j - base) (length ways))
@@ -89,7 +88,7 @@ module _ (lines : List Line) (va : VirtualAddress) where
 
   -- the first that matches is found
   pub found_at : (i : ℕ) → set_of va * 32 ≤ i → i < set_of va * 32 + 32 → matches va (get_or lines i empty_line) ≡ true
-      → ((j : ℕ) → set_of va * 32 ≤ j → j < i → matches va (get_or lines j empty_line) ≡ false) → find lines va ≡ At i
+      → ((j : ℕ) → set_of va * 32 ≤ j → j < i → matches va (get_or lines j empty_line) ≡ false) → find lines va ≡ Some i
   unfolding find
   found_at i h k t f =
       case (ltb i (length lines))
@@ -99,11 +98,11 @@ module _ (lines : List Line) (va : VirtualAddress) where
       let l : i - base < length ways = omega (arith, ltb-true i (length lines) u) in
       first_at (matches va) empty_line base ways (i - base) l (ap (matches va) (line_at i h k) ∙ t)
       (λ j b. ap (matches va) (way_at j (omega arith)) ∙ f (base + j) (omega arith) (omega arith))
-      ∙ ap {B = Search} At e)
+      ∙ ap {B = Option ℕ} Some e)
       (λ u. clash t (ap (matches va) (get_or-eq_default lines empty_line {n = i} (ltb-false i (length lines) u))))
 
   -- none is found where none matches
-  pub missed_none : Missed lines va → find lines va ≡ Nothing
+  pub missed_none : Missed lines va → find lines va ≡ None
   unfolding find
   missed_none f =
       let n = long in
@@ -117,9 +116,9 @@ find_same old new va f = by (find old va) refl
     alike : (j : ℕ) → matches va (get_or new j empty_line) ≡ matches va (get_or old j empty_line)
     alike j = rw ((f j).valid, (f j).tag)
 
-    by : (x : Search) → find old va ≡ x → find new va ≡ find old va
-    by Nothing e = missed_none new va (λ j h k. alike j ∙ missed old va e j h k) ∙ sym e
-    by (At i) e =
+    by : (x : Option ℕ) → find old va ≡ x → find new va ≡ find old va
+    by None e = missed_none new va (λ j h k. alike j ∙ missed old va e j h k) ∙ sym e
+    by (Some i) e =
         let o = found old va i e in
         let hit : matches va (get_or old i empty_line) ≡ true = rw (o.valid, eq-eqb (get_or old i empty_line).tag (tag_of va) o.tag) in
         found_at new va i o.from o.below (alike i ∙ hit) (λ j h k. alike j ∙ o.first j h k) ∙ sym e
@@ -134,5 +133,5 @@ pub find_cleaned : (s : Side) (va wa : VirtualAddress) → find (cleaned s va).s
 find_cleaned s va wa = find_same s.cache.lines (cleaned s va).side.cache.lines wa (same_cleaned s va)
 
 -- nothing is found once all lines are flushed
-pub find_all_flushed : (c : Dcache) (va : VirtualAddress) → find (all_flushed c).lines va ≡ Nothing
+pub find_all_flushed : (c : Dcache) (va : VirtualAddress) → find (all_flushed c).lines va ≡ None
 find_all_flushed c va = missed_none (all_flushed c).lines va (λ j h k. ap (matches va) (all_flushed_lem c j))

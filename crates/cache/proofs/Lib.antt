@@ -1,5 +1,4 @@
 pub mod Lines
-pub mod Copies
 pub mod Sending
 pub mod Counting
 pub mod Unchanged

@@ -1,21 +1,20 @@
 -- Lines and the words that stand for them; the steps of the search of a set.
+use Rattle.std.specs.Prelude.{Some, None}
 use Prim.Native.Nat.{ℕ, ◌+◌, ◌*◌, ◌/◌, ◌%◌, ◌<◌, ◌≤◌}
 use native.Mathlib.Omega.{arith}
 use mathlib.Core.Bool.{true, false, ◌||◌}
 use mathlib.Core.Path.{◌≡◌, refl, sym, ◌∙◌, ap}
 use mathlib.Core.List.{List}
 use lib.Dec.{eqb}
-use lib.ListN.{length, length-map, length-drop, get_or, set, take, drop, replicate}
+use lib.ListN.{length, length-map, length-drop, get_or, take, drop, replicate}
 use lib.Seq.{get_or-take, get_or-drop, length-take-le}
 use borrow.Author.Tests.{lt-ltb, le-ltb, eq-eqb, ne_eqb}
 use Rattle.values.proofs.Cases.{and-false}
 use Rattle.values.specs.Lists.{first_from}
 use Rattle.values.specs.Empty.{empty_line, no_lines}
 use Rattle.values.specs.declared.Line.{Line}
-use Rattle.values.specs.declared.Search.TheVariants.{At, Nothing}
 use Rattle.values.proofs.Searches.{search_hit, search_on, search_end}
-use Rattle.values.proofs.Maps.{map_at, words_step}
-use Rattle.values.proofs.InPlace.{Upto, upto_end, map_constant}
+use Rattle.values.proofs.Maps.{map_at, map_replicate}
 use Rattle.cache.specs.Dcache.{has_tag, marked, clean_line, fresh_line}
 use Rattle.cache.specs.Packing.{line_of, lines_of, SendsLine}
 
@@ -121,7 +120,7 @@ module _ (ws : List ℕ) (tag base i : ℕ) (long : length ws ≡ 512) (low : ba
   way_at : i < 32 → get_or ways i empty_line ≡ line_of (get_or ws (base + i) 0)
   way_at h = get_or-take 32 (drop base (lines_of ws)) i empty_line h ∙ get_or-drop base (lines_of ws) i empty_line ∙ line_at ws (base + i)
 
-  pub find_hit : i < 32 → has_tag tag (line_of (get_or ws (base + i) 0)) ≡ true → first_from (has_tag tag) (base + i) (drop i ways) ≡ At (base + i)
+  pub find_hit : i < 32 → has_tag tag (line_of (get_or ws (base + i) 0)) ≡ true → first_from (has_tag tag) (base + i) (drop i ways) ≡ Some (base + i)
   find_hit h t = search_hit (has_tag tag) ways empty_line (base + i) i (rw length_ways h) (ap (has_tag tag) (way_at h) ∙ t)
 
   pub find_on : i < 32 → has_tag tag (line_of (get_or ws (base + i) 0)) ≡ false
@@ -131,22 +130,14 @@ module _ (ws : List ℕ) (tag base i : ℕ) (long : length ws ≡ 512) (low : ba
       search_on (has_tag tag) ways empty_line (base + i) i (rw length_ways h) (ap (has_tag tag) (way_at h) ∙ t)
       ∙ ap (λ (k : ℕ). first_from (has_tag tag) k (drop (i + 1) ways)) e
 
-  pub find_end : 32 ≤ i → first_from (has_tag tag) (base + i) (drop i ways) ≡ Nothing
+  pub find_end : 32 ≤ i → first_from (has_tag tag) (base + i) (drop i ways) ≡ None
   find_end h = search_end (has_tag tag) ways empty_line (base + i) i (rw length_ways h)
 
 -- ---- a flush
 
-abbrev pub emptied : Line → Line
-emptied l = empty_line
-
-pub flush_step : (old ws : List ℕ) (i : ℕ) → Upto emptied (lines_of old) (lines_of ws) i → i < length ws
-    → Upto emptied (lines_of old) (lines_of (set ws i 0)) (i + 1)
-flush_step old ws i u h = words_step line_of empty_line line_zero emptied old ws i 0 u h line_zero
-
-pub flush_end : (old ws : List ℕ) (i : ℕ) → Upto emptied (lines_of old) (lines_of ws) i → length old ≡ 512 → 512 ≤ i → lines_of ws ≡ no_lines
-flush_end old ws i u n h =
-    upto_end emptied (lines_of old) (lines_of ws) i u (rw length-map (omega arith)) ∙ map_constant empty_line (lines_of old)
-    ∙ ap (λ (k : ℕ). replicate k empty_line) (length-map old line_of ∙ n)
+-- zeros are empty lines
+pub flush_all : (n : ℕ) → n ≡ 512 → lines_of (replicate n 0) ≡ no_lines
+flush_all n h = map_replicate line_of n 0 ∙ ap (replicate n) line_zero ∙ ap (λ (k : ℕ). replicate k empty_line) h
 
 -- ---- a clean
 

@@ -1,4 +1,5 @@
 -- Lines, pointers and cache store bytes after each operation: what it puts, and every other as it was.
+use Rattle.std.specs.Prelude.{Option, Some, None}
 use Prim.Native.Nat.{ℕ, ◌+◌, ◌-◌, ◌*◌, ◌%◌, ◌^◌, ◌<◌, ◌≤◌}
 use native.Mathlib.Omega.{arith}
 use mathlib.Core.Bool.{true, false}
@@ -14,8 +15,6 @@ use Rattle.values.specs.Addresses.{tag_of, offset_of, physical_line}
 use Rattle.values.specs.declared.VirtualAddress.{VirtualAddress}
 use Rattle.values.specs.declared.PhysicalAddress.{PhysicalAddress}
 use Rattle.values.specs.declared.Line.{Line}
-use Rattle.values.specs.declared.Search.{Search}
-use Rattle.values.specs.declared.Search.TheVariants.{At, Nothing}
 use Rattle.values.proofs.Cases.{case}
 use Rattle.words.specs.Words.{stored}
 use Rattle.words.proofs.Laws.{byte_in, byte_before, byte_behind, load_same}
@@ -307,20 +306,20 @@ module _ (s : Side) (va : VirtualAddress) (pa : PhysicalAddress) where
 -- ---- a clean
 
 -- "clears their dirty bits and leaves the line valid"
-pub line_cleaned : (s : Side) (i : ℕ) → line_at (cleaned_at s (At i)).side.cache i ≡ clean_line (line_at s.cache i)
+pub line_cleaned : (s : Side) (i : ℕ) → line_at (cleaned_at s (Some i)).side.cache i ≡ clean_line (line_at s.cache i)
 unfolding cleaned_at
 line_cleaned s i = line_put s.cache.lines i (clean_line (line_at s.cache i)) (λ e. ap clean_line e)
 
 -- every other line stays
-pub other_cleaned : (s : Side) (i j : ℕ) → j ≢ i → line_at (cleaned_at s (At i)).side.cache j ≡ line_at s.cache j
+pub other_cleaned : (s : Side) (i j : ℕ) → j ≢ i → line_at (cleaned_at s (Some i)).side.cache j ≡ line_at s.cache j
 unfolding cleaned_at
 other_cleaned s i j n = other_with s.cache i (clean_line (line_at s.cache i)) j n
 
 -- every line keeps its mapping
-pub same_cleaned_at : (s : Side) (x : Search) (j : ℕ) → SameLine (line_at s.cache j) (line_at (cleaned_at s x).side.cache j)
+pub same_cleaned_at : (s : Side) (x : Option ℕ) (j : ℕ) → SameLine (line_at s.cache j) (line_at (cleaned_at s x).side.cache j)
 unfolding cleaned_at
-same_cleaned_at s Nothing j = same_line (line_at s.cache j)
-same_cleaned_at s (At i) j =
+same_cleaned_at s None j = same_line (line_at s.cache j)
+same_cleaned_at s (Some i) j =
     same_set s.cache.lines i (clean_line (line_at s.cache i)) (record { valid = refl; tag = refl; frame = refl }) j
 
 -- the same of the line of an address
@@ -330,39 +329,39 @@ same_cleaned s va j = same_cleaned_at s (find s.cache.lines va) j
 
 -- its dirty halves have gone to the buffer
 pub backing_cleaned : (s : Side) (i : ℕ)
-    → (cleaned_at s (At i)).side.backing ≡ halves_sent s.backing (line_at s.cache i) s.cache.store (i * 32)
+    → (cleaned_at s (Some i)).side.backing ≡ halves_sent s.backing (line_at s.cache i) s.cache.store (i * 32)
 unfolding cleaned_at
 backing_cleaned s i = refl
 
 -- where no line is found, nothing changes
-pub clean_none : (s : Side) → (cleaned_at s Nothing).side ≡ s
+pub clean_none : (s : Side) → (cleaned_at s None).side ≡ s
 unfolding cleaned_at
 clean_none s = refl
 
 -- the line of an address is the one found
-pub cleaned_as : (s : Side) (va : VirtualAddress) (x : Search) → find s.cache.lines va ≡ x → cleaned s va ≡ cleaned_at s x
+pub cleaned_as : (s : Side) (va : VirtualAddress) (x : Option ℕ) → find s.cache.lines va ≡ x → cleaned s va ≡ cleaned_at s x
 unfolding cleaned
 cleaned_as s va x e = ap (cleaned_at s) e
 
 -- ---- a flush
 
 -- the line is emptied
-pub line_flushed_lem : (c : Dcache) (i : ℕ) → line_at (flushed_at c (At i)) i ≡ empty_line
+pub line_flushed_lem : (c : Dcache) (i : ℕ) → line_at (flushed_at c (Some i)) i ≡ empty_line
 unfolding flushed_at
 line_flushed_lem c i = line_put c.lines i empty_line (λ e. refl)
 
 -- every other line stays
-pub other_flushed : (c : Dcache) (i j : ℕ) → j ≢ i → line_at (flushed_at c (At i)) j ≡ line_at c j
+pub other_flushed : (c : Dcache) (i j : ℕ) → j ≢ i → line_at (flushed_at c (Some i)) j ≡ line_at c j
 unfolding flushed_at
 other_flushed c i j n = other_with c i empty_line j n
 
 -- where no line is found, nothing changes
-pub flush_none : (c : Dcache) → flushed_at c Nothing ≡ c
+pub flush_none : (c : Dcache) → flushed_at c None ≡ c
 unfolding flushed_at
 flush_none c = refl
 
 -- the line of an address is the one found
-pub flushed_as : (c : Dcache) (va : VirtualAddress) (x : Search) → find c.lines va ≡ x → line_flushed c va ≡ flushed_at c x
+pub flushed_as : (c : Dcache) (va : VirtualAddress) (x : Option ℕ) → find c.lines va ≡ x → line_flushed c va ≡ flushed_at c x
 unfolding line_flushed
 flushed_as c va x e = ap (flushed_at c) e
 

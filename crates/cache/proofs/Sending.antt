@@ -1,4 +1,5 @@
 -- What a clean and a fill leave, by what their parts leave.
+use Rattle.std.specs.Prelude.{Some}
 use Prim.Native.Nat.{ℕ, ◌+◌, ◌*◌}
 use mathlib.Core.Bool.{true, false}
 use mathlib.Core.Path.{◌≡◌, sym, ◌∙◌, ap}
@@ -9,7 +10,6 @@ use Rattle.values.specs.Addresses.{set_of, tag_of, physical_line}
 use Rattle.values.specs.declared.VirtualAddress.{VirtualAddress}
 use Rattle.values.specs.declared.PhysicalAddress.{PhysicalAddress}
 use Rattle.values.specs.declared.Line.{Line}
-use Rattle.values.specs.declared.Search.TheVariants.{At}
 use Rattle.values.proofs.Maps.{map_set}
 use Rattle.bus.specs.Physical.{line_aborts}
 use Rattle.buffer.specs.Buffer.{Backing, physical_behind, ready}
@@ -28,7 +28,7 @@ module _ (m bad ws : List ℕ) (bs : List (List ℕ)) (used : ℕ) (lines pointe
 
   pub clean_left : (i : ℕ) (l : Line) → l ≡ line_of (get_or lines i 0) → (m' ws' : List ℕ) (bs' : List (List ℕ)) (n : ℕ)
       → Left m' bad ws' bs' n (halves_sent (backing_of m bad ws bs used) l store (i * 32)) → (w h : ℕ) → line_of w ≡ clean_line (line_of (get_or lines i 0))
-      → h ≡ dirty_halves l → SentIs m' bad ws' bs' n (set lines i w) pointers store h (cleaned_at (side_of m bad ws bs used lines pointers store) (At i))
+      → h ≡ dirty_halves l → SentIs m' bad ws' bs' n (set lines i w) pointers store h (cleaned_at (side_of m bad ws bs used lines pointers store) (Some i))
   unfolding cleaned_at
   clean_left i l e m' ws' bs' n o w h ew eh =
       let q : get_or (lines_of lines) i empty_line ≡ l = line_at lines i ∙ sym e in

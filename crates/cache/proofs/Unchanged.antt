@@ -1,5 +1,6 @@
 -- What each operation of the Dcache leaves as it was: memory's length, the numbers of lines, pointers and cache store bytes, the buffer's shape,
 -- the pointers and the cache store.
+use Rattle.std.specs.Prelude.{Option, Some, None}
 use Prim.Native.Nat.{ℕ, ◌+◌, ◌*◌, ◌%◌, ◌<◌, ◌≤◌}
 use native.Mathlib.Omega.{arith}
 use mathlib.Core.Bool.{Bool, true, false}
@@ -14,8 +15,6 @@ use Rattle.values.specs.Addresses.{set_of, tag_of, offset_of, physical_line}
 use Rattle.values.specs.declared.VirtualAddress.{VirtualAddress}
 use Rattle.values.specs.declared.PhysicalAddress.{PhysicalAddress}
 use Rattle.values.specs.declared.Line.{Line}
-use Rattle.values.specs.declared.Search.{Search}
-use Rattle.values.specs.declared.Search.TheVariants.{At, Nothing}
 use Rattle.values.proofs.Cases.{case}
 use Rattle.words.proofs.Laws.{length_stored}
 use Rattle.bus.specs.Physical.{line_aborts}
@@ -73,10 +72,10 @@ memory_way s va pa =
     ∙ memory_sent s.backing l s.cache.store (i * 32)
 
 -- a clean of the line found
-pub memory_cleaned_at : (s : Side) (x : Search) → length (cleaned_at s x).side.backing.memory ≡ length s.backing.memory
+pub memory_cleaned_at : (s : Side) (x : Option ℕ) → length (cleaned_at s x).side.backing.memory ≡ length s.backing.memory
 unfolding cleaned_at
-memory_cleaned_at s Nothing = refl
-memory_cleaned_at s (At i) = memory_sent s.backing (line_at s.cache i) s.cache.store (i * 32)
+memory_cleaned_at s None = refl
+memory_cleaned_at s (Some i) = memory_sent s.backing (line_at s.cache i) s.cache.store (i * 32)
 
 -- a clean of the line of an address
 pub memory_cleaned : (s : Side) (va : VirtualAddress) → length (cleaned s va).side.backing.memory ≡ length s.backing.memory
@@ -113,10 +112,10 @@ bad_filled s va pa =
     case (line_aborts (physical_behind s.backing) pa) (λ t. rw t (bad_way s va pa)) (λ t. rw t (bad_way s va pa))
 
 -- a clean of the line found
-pub bad_cleaned_at : (s : Side) (x : Search) → (cleaned_at s x).side.backing.bad ≡ s.backing.bad
+pub bad_cleaned_at : (s : Side) (x : Option ℕ) → (cleaned_at s x).side.backing.bad ≡ s.backing.bad
 unfolding cleaned_at
-bad_cleaned_at s Nothing = refl
-bad_cleaned_at s (At i) = bad_sent s.backing (line_at s.cache i) s.cache.store (i * 32)
+bad_cleaned_at s None = refl
+bad_cleaned_at s (Some i) = bad_sent s.backing (line_at s.cache i) s.cache.store (i * 32)
 
 -- a clean of the line of an address
 pub bad_cleaned : (s : Side) (va : VirtualAddress) → (cleaned s va).side.backing.bad ≡ s.backing.bad
@@ -131,10 +130,10 @@ unfolding hit_store
 pointers_stored c i va width v = refl
 
 -- a clean of the line found moves no pointer
-pub pointers_cleaned_at : (s : Side) (x : Search) → (cleaned_at s x).side.cache.pointers ≡ s.cache.pointers
+pub pointers_cleaned_at : (s : Side) (x : Option ℕ) → (cleaned_at s x).side.cache.pointers ≡ s.cache.pointers
 unfolding cleaned_at
-pointers_cleaned_at s Nothing = refl
-pointers_cleaned_at s (At i) = refl
+pointers_cleaned_at s None = refl
+pointers_cleaned_at s (Some i) = refl
 
 -- a clean of the line of an address moves no pointer
 pub pointers_cleaned : (s : Side) (va : VirtualAddress) → (cleaned s va).side.cache.pointers ≡ s.cache.pointers
@@ -142,10 +141,10 @@ unfolding cleaned
 pointers_cleaned s va = pointers_cleaned_at s (find s.cache.lines va)
 
 -- a clean of the line found changes no byte of the cache store
-pub store_cleaned_at : (s : Side) (x : Search) → (cleaned_at s x).side.cache.store ≡ s.cache.store
+pub store_cleaned_at : (s : Side) (x : Option ℕ) → (cleaned_at s x).side.cache.store ≡ s.cache.store
 unfolding cleaned_at
-store_cleaned_at s Nothing = refl
-store_cleaned_at s (At i) = refl
+store_cleaned_at s None = refl
+store_cleaned_at s (Some i) = refl
 
 -- a clean of the line of an address changes no byte of the cache store
 pub store_cleaned : (s : Side) (va : VirtualAddress) → (cleaned s va).side.cache.store ≡ s.cache.store
@@ -153,10 +152,10 @@ unfolding cleaned
 store_cleaned s va = store_cleaned_at s (find s.cache.lines va)
 
 -- a flush of the line found moves no pointer
-pub pointers_flushed_at : (c : Dcache) (x : Search) → (flushed_at c x).pointers ≡ c.pointers
+pub pointers_flushed_at : (c : Dcache) (x : Option ℕ) → (flushed_at c x).pointers ≡ c.pointers
 unfolding flushed_at
-pointers_flushed_at c Nothing = refl
-pointers_flushed_at c (At i) = refl
+pointers_flushed_at c None = refl
+pointers_flushed_at c (Some i) = refl
 
 -- a flush of the line of an address moves no pointer
 pub pointers_flushed : (c : Dcache) (va : VirtualAddress) → (line_flushed c va).pointers ≡ c.pointers
@@ -164,10 +163,10 @@ unfolding line_flushed
 pointers_flushed c va = pointers_flushed_at c (find c.lines va)
 
 -- a flush of the line found changes no byte of the cache store
-pub store_flushed_at : (c : Dcache) (x : Search) → (flushed_at c x).store ≡ c.store
+pub store_flushed_at : (c : Dcache) (x : Option ℕ) → (flushed_at c x).store ≡ c.store
 unfolding flushed_at
-store_flushed_at c Nothing = refl
-store_flushed_at c (At i) = refl
+store_flushed_at c None = refl
+store_flushed_at c (Some i) = refl
 
 -- a flush of the line of an address changes no byte of the cache store
 pub store_flushed : (c : Dcache) (va : VirtualAddress) → (line_flushed c va).store ≡ c.store
@@ -231,10 +230,10 @@ shape_read c i va pa m low inside h =
     fits e = omega (arith, low)
 
 -- a flush of the line found
-pub shape_flushed_at : (c : Dcache) (x : Search) → CacheShape c → CacheShape (flushed_at c x)
+pub shape_flushed_at : (c : Dcache) (x : Option ℕ) → CacheShape c → CacheShape (flushed_at c x)
 unfolding flushed_at
-shape_flushed_at c Nothing h = h
-shape_flushed_at c (At i) h = shape_with c i empty_line h
+shape_flushed_at c None h = h
+shape_flushed_at c (Some i) h = shape_with c i empty_line h
 
 -- a flush of the line of an address
 pub shape_flushed : (c : Dcache) (va : VirtualAddress) → CacheShape c → CacheShape (line_flushed c va)
@@ -280,10 +279,10 @@ shape_way c i s h =
     }
 
 -- a clean of the line found
-pub shape_cleaned_at : (s : Side) (x : Search) → SideShape s → SideShape (cleaned_at s x).side
+pub shape_cleaned_at : (s : Side) (x : Option ℕ) → SideShape s → SideShape (cleaned_at s x).side
 unfolding cleaned_at
-shape_cleaned_at s Nothing h = h
-shape_cleaned_at s (At i) h =
+shape_cleaned_at s None h = h
+shape_cleaned_at s (Some i) h =
     let l = line_at s.cache i in
     record {
       cache_shape = shape_with s.cache i (clean_line l) h.cache_shape;

@@ -1,6 +1,6 @@
 -- "Dcache: 16 sets of 32 lines of 32 bytes, set VA[8:5], tag VA[31:9], a physical line number, a valid bit and two dirty bits, one a
 -- 16-byte half." Line i is way i mod 32 of set i / 32, and its bytes are those of the cache store from 32 i on.
-use Rattle.std.specs.Prelude.{ℕ, ◌+◌, ◌*◌, ◌%◌, Bool, true, false, cond, ◌&&◌, List, ◌++◌, eqb, ltb, get_or, set, take, drop}
+use Rattle.std.specs.Prelude.{ℕ, ◌+◌, ◌*◌, ◌%◌, Bool, true, false, cond, ◌&&◌, List, ◌++◌, eqb, ltb, get_or, set, take, drop, Option, Some, None}
 use Rattle.values.specs.Bits.{number}
 use Rattle.values.specs.Lists.{first_from}
 use Rattle.values.specs.Empty.{empty_line, no_lines}
@@ -8,8 +8,6 @@ use Rattle.values.specs.Addresses.{set_of, tag_of, offset_of, physical_line}
 use Rattle.values.specs.declared.VirtualAddress.{VirtualAddress}
 use Rattle.values.specs.declared.PhysicalAddress.{PhysicalAddress}
 use Rattle.values.specs.declared.Line.{Line}
-use Rattle.values.specs.declared.Search.{Search}
-use Rattle.values.specs.declared.Search.TheVariants.{At, Nothing}
 use Rattle.words.specs.Words.{value_at, stored}
 use Rattle.bus.specs.Physical.{line_aborts}
 use Rattle.buffer.specs.Buffer.{Backing, physical_behind, half_pushed, ready}
@@ -57,7 +55,7 @@ abbrev pub matches : VirtualAddress → Line → Bool
 matches va l = has_tag (tag_of va) l
 
 -- "The search of a set stops at the first match." "It is searched always, even when disabled."
-unfoldable pub find : List Line → VirtualAddress → Search
+unfoldable pub find : List Line → VirtualAddress → Option ℕ
 find lines va = first_from (matches va) (set_of va * 32) (take 32 (drop (set_of va * 32) lines))
 
 -- ---- hits
@@ -138,9 +136,9 @@ abbrev pub clean_line : Line → Line
 clean_line l = record { valid = l.valid; tag = l.tag; frame = l.frame; low = false; high = false }
 
 -- "A clean sends dirty halves to the buffer, low half first, clears their dirty bits and leaves the line valid."
-unfoldable pub cleaned_at : Side → Search → Sent
-cleaned_at s Nothing = sent_from s 0
-cleaned_at s (At i) =
+unfoldable pub cleaned_at : Side → Option ℕ → Sent
+cleaned_at s None = sent_from s 0
+cleaned_at s (Some i) =
     let l = line_at s.cache i in
     sent_from (side_from (with_line s.cache i (clean_line l)) (halves_sent s.backing l s.cache.store (i * 32))) (dirty_halves l)
 
@@ -149,9 +147,9 @@ unfoldable pub cleaned : Side → VirtualAddress → Sent
 cleaned s va = cleaned_at s (find s.cache.lines va)
 
 -- "A flush loses dirty bytes; emptied places become all zeros, pointers and cache store bytes stay."
-unfoldable pub flushed_at : Dcache → Search → Dcache
-flushed_at c Nothing = c
-flushed_at c (At i) = with_line c i empty_line
+unfoldable pub flushed_at : Dcache → Option ℕ → Dcache
+flushed_at c None = c
+flushed_at c (Some i) = with_line c i empty_line
 
 -- "(1,6) flushes the line of the virtual address written"
 unfoldable pub line_flushed : Dcache → VirtualAddress → Dcache

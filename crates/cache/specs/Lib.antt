@@ -1,3 +1,2 @@
 pub mod Dcache
 pub mod Packing
-pub mod Copies

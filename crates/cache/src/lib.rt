@@ -9,7 +9,7 @@ ghost use Rattle.cache.specs.Dcache as spec;
 ghost use Rattle.cache.specs.Packing.{line_of, lines_of};
 ghost use Rattle.cache.specs.Dcache.{dcache_from};
 
-use values::{Line, Search, VirtualAddress};
+use values::{Line, VirtualAddress};
 
 // The line that a word stands for.
 pub fn line_of(w: u64) -> Line
@@ -32,6 +32,7 @@ fn next_tag(lines: &[u64], base: usize, tag: u32, from: usize) -> usize
         ≡ first_from (spec.has_tag tag) (base + from) (drop from (take 32 (drop base (lines_of lines.now))))) }
 {
     let mut i = from;
+    // document 01 names the form: a loop that yields the matching way by break
     let found = loop {
         if i == 32 {
             break i;
@@ -45,19 +46,20 @@ fn next_tag(lines: &[u64], base: usize, tag: u32, from: usize) -> usize
 }
 
 // The first line of the address's set that matches, even when the cache is disabled. A word's valid bit is tested where its tag matches.
-pub fn find(lines: &[u64], va: VirtualAddress) -> Search
+pub fn find(lines: &[u64], va: VirtualAddress) -> Option<usize>
     requires { (length lines.now ≡ 512) × (va.0 < 0x100000000) }
     ensures { result ≡ spec.find (lines_of lines.now) va }
 {
     let base = (va.0 / 32 % 16 * 32) as usize;
     let tag = va.0 / 512;
     let mut i = next_tag(lines, base, tag, 0);
+    // document 01 names the form: a loop that yields the matching way by break
     let found = loop {
         if i == 32 {
-            break Search::Nothing;
+            break None;
         }
         if lines[base + i] % 2 == 1 {
-            break Search::At(base + i);
+            break Some(base + i);
         }
         i = next_tag(lines, base, tag, i + 1);
     };
@@ -120,9 +122,5 @@ pub fn flush(lines: &mut [u64])
     requires { length lines.old ≡ 512 }
     ensures { lines_of lines.new ≡ no_lines }
 {
-    let mut i: usize = 0;
-    while i < 512 {
-        lines[i] = 0;
-        i += 1;
-    }
+    lines.fill(0);
 }

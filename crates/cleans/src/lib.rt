@@ -7,19 +7,15 @@ ghost use Rattle.buffer.specs.Ranges.{Fits, Left};
 ghost use Rattle.cache.specs.Dcache as spec;
 ghost use Rattle.cache.specs.Packing.{line_of, side_of, SentIs, SendsLine, HoldsLine};
 
-use values::{Count, Line, Search};
+use values::{Count, Line};
 
 // Sixteen bytes of the cache store.
 pub fn half_at(store: &[u8], at: usize) -> [u8; 16]
     requires { at + 16 ≤ length store.now }
     ensures { result ≡ take 16 (drop at store.now) }
 {
-    let mut out = [0u8; 16];
-    let mut i: usize = 0;
-    while i < 16 {
-        out[i] = store[at + i];
-        i += 1;
-    }
+    let mut out = [0; 16];
+    out.copy_from_slice(&store[at..at + 16]);
     out
 }
 
@@ -126,7 +122,7 @@ pub fn clean_line(
         store.now result.halves
         (spec.cleaned_at (side_of memory.old bad.now words.old bytes.old used lines.old pointers
         store.now)
-        (Search.At i)) }
+        (Some i)) }
 {
     let w = lines[i];
     let l = cache::line_of(w);

@@ -1,4 +1,5 @@
 -- The cases of a CP15 write's operation, and what the code of each leaves.
+use Rattle.std.specs.Prelude.{Some, None}
 use Prim.Native.Nat.{ℕ, ◌+◌, ◌<◌, ◌≤◌}
 use native.Mathlib.Nat.{add-zero}
 use mathlib.Core.Bool.{true, false, ◌||◌}
@@ -10,7 +11,6 @@ use Rattle.values.specs.Empty.{empty_line}
 use Rattle.values.specs.declared.VirtualAddress.{VirtualAddress}
 use Rattle.values.specs.declared.Registers.{Registers}
 use Rattle.values.specs.declared.Transfer.{Transfer}
-use Rattle.values.specs.declared.Search.TheVariants.{At, Nothing}
 use Rattle.values.specs.declared.Answer.TheVariants as answer
 use Rattle.tlb.specs.Tlb.{flushed, dropped}
 use Rattle.cache.specs.Dcache.{Dcache, Side, dcache_from, find, line_flushed, flushed_at, all_flushed, cleaned, cleaned_at}
@@ -80,18 +80,18 @@ module _ (ws ps st : List ℕ) (va : VirtualAddress) where
   abbrev cache_of : List ℕ → Dcache
   cache_of ls = dcache_from (lines_of ls) ps st
 
-  pub line_flushed_lem : (us : List ℕ) (i : ℕ) → find (lines_of ws) va ≡ At i → lines_of us ≡ set (lines_of ws) i empty_line
+  pub line_flushed_lem : (us : List ℕ) (i : ℕ) → find (lines_of ws) va ≡ Some i → lines_of us ≡ set (lines_of ws) i empty_line
       → cache_of us ≡ line_flushed (cache_of ws) va
   unfolding line_flushed flushed_at
   line_flushed_lem us i e f = rw (e, f)
 
-  pub none_flushed : find (lines_of ws) va ≡ Nothing → cache_of ws ≡ line_flushed (cache_of ws) va
+  pub none_flushed : find (lines_of ws) va ≡ None → cache_of ws ≡ line_flushed (cache_of ws) va
   unfolding line_flushed flushed_at
   none_flushed e = rw e
 
 -- a line that is found can be cleaned
 pub can_clean : (memory words : List ℕ) (bytes : List (List ℕ)) (lines store : List ℕ) (s : Scalars) (va : VirtualAddress) (i : ℕ)
-    → CleanReady memory words bytes lines store s → find (lines_of lines) va ≡ At i → HoldsLine memory lines store i
+    → CleanReady memory words bytes lines store s → find (lines_of lines) va ≡ Some i → HoldsLine memory lines store i
 can_clean memory words bytes lines store s va i k e =
     let f = found (lines_of lines) va i e in
     record {
@@ -110,16 +110,16 @@ module _ (es : List ℕ) (s : Scalars) (n : ℕ) (l : Lists) (va : VirtualAddres
   abbrev side_of_lem : Side
   side_of_lem = side_of l.memory l.bad l.words l.bytes s.used l.lines l.pointers l.store
 
-  pub clean_left : (k : Lists) (i used halves : ℕ) (r : Scalars) → find (lines_of l.lines) va ≡ At i
-      → SentIs k.memory k.bad k.words k.bytes used k.lines k.pointers k.store halves (cleaned_at side_of_lem (At i))
+  pub clean_left : (k : Lists) (i used halves : ℕ) (r : Scalars) → find (lines_of l.lines) va ≡ Some i
+      → SentIs k.memory k.bad k.words k.bytes used k.lines k.pointers k.store halves (cleaned_at side_of_lem (Some i))
       → r ≡ sent_by s used halves → machine_of k es r n ≡ cleaned_line (machine_of l es s n) va
   unfolding cleaned
   clean_left k i used halves r e f g = rw (g, f.count, e) (ap made f.side)
     where
       made : Side → Machine
-      made t = machines.with_counts (machines.with_side (machine_of l es s n) t) (sent s.counts (cleaned_at side_of_lem (At i)).halves)
+      made t = machines.with_counts (machines.with_side (machine_of l es s n) t) (sent s.counts (cleaned_at side_of_lem (Some i)).halves)
 
-  pub none_clean : find (lines_of l.lines) va ≡ Nothing → machine_of l es s n ≡ cleaned_line (machine_of l es s n) va
+  pub none_clean : find (lines_of l.lines) va ≡ None → machine_of l es s n ≡ cleaned_line (machine_of l es s n) va
   unfolding cleaned cleaned_at
   none_clean e =
       rw (e, add-zero s.counts.halves)
@@ -127,7 +127,7 @@ module _ (es : List ℕ) (s : Scalars) (n : ℕ) (l : Lists) (va : VirtualAddres
 -- the halves of a line that is cleaned have room in their count
 pub clean_room : (memory bad words : List ℕ) (bytes : List (List ℕ)) (lines store ps : List ℕ) (s : Scalars) (i halves : ℕ)
     → CleanReady memory words bytes lines store s → i < 512
-    → halves ≡ (cleaned_at (side_of memory bad words bytes s.used lines ps store) (At i)).halves → s.counts.halves + halves ≤ count_limit
+    → halves ≡ (cleaned_at (side_of memory bad words bytes s.used lines ps store) (Some i)).halves → s.counts.halves + halves ≤ count_limit
 unfolding cleaned_at
 clean_room memory bad words bytes lines store ps s i halves k h e = rw (e, line_at lines i) (k.halves i h)
 

@@ -2,14 +2,15 @@
 use Prim.Native.Nat.{ℕ, suc, ◌+◌, ◌*◌, ◌-◌, ◌≤◌, ◌<◌}
 use native.Mathlib.Omega.{arith}
 use mathlib.Core.Bool.{true, false}
-use mathlib.Core.Path.{◌≡◌, refl, sym, ◌∙◌, ap}
+use mathlib.Core.Path.{◌≡◌, sym, ◌∙◌, ap}
 use mathlib.Core.List.{List, [], ◌∷◌}
 use lib.Dec.{leb}
 use lib.ListN.{length, get_or, drop, drop_of_length-le}
 use lib.Seq.{drop-cons}
-use borrow.Author.Tests.{le-leb, lt-leb}
-use Rattle.values.proofs.Cases.{and_both, and-false}
+use borrow.Author.Tests.{le-leb}
+use Rattle.values.proofs.Cases.{and_both}
 use Rattle.fields.specs.Lines.{is_digit, value_from, value_of}
+use Rattle.std.specs.Prelude.{Some, None}
 use Rattle.fields.specs.Code.{digits_of, Reads}
 
 -- a list from a place on, by its first element
@@ -18,12 +19,6 @@ drop_more l i h = let e : suc i ≡ i + 1 = omega arith in drop-cons l i 0 h ∙
 
 pub is_digit_lem : (b : ℕ) → 48 ≤ b → b ≤ 57 → is_digit b ≡ true
 is_digit_lem b h k = and_both (leb 48 b) (leb b 57) (le-leb 48 b h) (le-leb b 57 k)
-
-pub low_byte : (b : ℕ) → b < 48 → is_digit b ≡ false
-low_byte b h = rw (lt-leb 48 b h)
-
-pub high_byte : (b : ℕ) → 57 < b → is_digit b ≡ false
-high_byte b h = and-false (leb 48 b) (leb b 57) (lt-leb b 57 h)
 
 -- the digits from a place on, by the byte there
 pub digits_more : (l : List ℕ) (i : ℕ) → i < length l → is_digit (get_or l i 0) ≡ true → digits_of (drop i l) ≡ get_or l i 0 ∷ digits_of (drop (i + 1) l)
@@ -52,18 +47,24 @@ pub record Numbering (text : List ℕ) (from value i : ℕ) : Type 0 where
   pub number : value_from value (digits_of (drop i text)) ≡ value_of (digits_of (drop from text))
   pub long : i + length (digits_of (drop i text)) ≡ from + length (digits_of (drop from text))
 
-pub numbering_start : (text : List ℕ) (from : ℕ) → from ≤ length text → Numbering text from 0 from
-numbering_start text from h = record { low = omega arith; high = h; small = omega arith; number = refl; long = refl }
-
 module _ (text : List ℕ) (from value i : ℕ) (g : Numbering text from value i) where
   -- no digit stands here
-  pub numbering_stop : digits_of (drop i text) ≡ [] → Reads (digits_of (drop from text)) from value i
+  pub numbering_stop : digits_of (drop i text) ≡ [] → Reads (digits_of (drop from text)) from (Some (record { value = value; end = i }))
   unfolding value_from
   numbering_stop e =
       let n : value ≡ value_of (digits_of (drop from text)) = ap (value_from value) (sym e) ∙ g.number in
       let l : i + length (digits_of (drop i text)) ≡ from + length (digits_of (drop from text)) = g.long in
       let z : length (digits_of (drop i text)) ≡ 0 = ap length e in
-      record { whole = λ h. (n, omega arith); above = λ h. omega arith }
+      let small = g.small in
+      (omega arith, n, omega arith)
+
+  -- no byte stands here
+  pub numbering_end : length text ≤ i → Reads (digits_of (drop from text)) from (Some (record { value = value; end = length text }))
+  numbering_end h =
+      let high = g.high in
+      let e : i ≡ length text = omega arith in
+      let r = numbering_stop (digits_end text i h) in
+      (r.0, r.1, sym e ∙ r.2)
 
   module _ (h : i < length text) (t : is_digit (get_or text i 0) ≡ true) (d : ℕ) (e : d ≡ get_or text i 0 - 48) where
     -- the number with the digit here
@@ -79,8 +80,8 @@ module _ (text : List ℕ) (from value i : ℕ) (g : Numbering text from value i
         record { low = omega arith; high = omega arith; small = s; number = numbered; long = omega arith }
 
     -- the number is above that of any field
-    pub numbering_above : 0xFFFFFFFF < value * 10 + d → Reads (digits_of (drop from text)) from (value * 10 + d) i
+    pub numbering_above : 0xFFFFFFFF < value * 10 + d → Reads (digits_of (drop from text)) from None
     numbering_above s =
         let k = value_grows (value * 10 + d) (digits_of (drop (i + 1) text)) in
         let q = numbered in
-        record { whole = λ b. absurd (omega arith); above = λ b. omega arith }
+        omega arith

@@ -1,6 +1,5 @@
 pub mod Digits
 pub mod Within
-pub mod Separators
 pub mod FieldAt
 pub mod Verdicts
 pub mod Scan

@@ -9,6 +9,7 @@ use lib.Dec.{eqb, leb}
 use lib.ListN.{length, get_or, take, drop, length-map, get_or-append}
 use lib.Seq.{sets, sets-eq, length-take-le, get_or-append-add}
 use borrow.Author.Tests.{eqb-true, lt-leb, le-leb}
+use Rattle.std.specs.Prelude.{Some, None}
 use Rattle.values.specs.Lists.{all}
 use Rattle.values.proofs.Cases.{and_left, and_right, and_both, and-false, clash}
 use Rattle.trace.specs.Calls.{is_call}
@@ -51,10 +52,10 @@ module _ (text calls₀ : List ℕ) (from k : ℕ) (calls : List ℕ) (front : t
   abbrev l : Line
   l = first_line (drop from text)
 
-  departs_so : is_line l ≡ false → LineRead (drop from text) calls₀ calls k 0
+  departs_so : is_line l ≡ false → LineRead (drop from text) calls₀ calls k None
   departs_so e = record { sized = sym (rw e); read = λ y. clash y e; front = front }
 
-  pub read_bad : (scan 5 (drop from text)).good ≡ false → LineRead (drop from text) calls₀ calls k 0
+  pub read_bad : (scan 5 (drop from text)).good ≡ false → LineRead (drop from text) calls₀ calls k None
   read_bad e = departs_so (line_is_lem l ∙ rw (sym (means 4 (drop from text)).good ∙ e))
 
 module _ (text calls₀ : List ℕ) (from k : ℕ) (calls : List ℕ) (at i : ℕ) (g : Scanning text calls₀ from k calls at i) (h : 5 ≤ i) where
@@ -86,7 +87,7 @@ module _ (text calls₀ : List ℕ) (from k : ℕ) (calls : List ℕ) (at i : �
   line_then : is_line first ≡ (leb (length first.bytes + 1) 64 && is_text_call_at (numbers_in first) 0)
   line_then = line_is_lem first ∙ rw test_read
 
-  pub read_long : 64 < at - from → LineRead (drop from text) calls₀ calls k 0
+  pub read_long : 64 < at - from → LineRead (drop from text) calls₀ calls k None
   read_long w =
       let e = size_read in
       departs_so text calls₀ from k calls g.front (line_then ∙ rw (lt-leb (length first.bytes + 1) 64 (omega arith)))
@@ -95,12 +96,12 @@ module _ (text calls₀ : List ℕ) (from k : ℕ) (calls : List ℕ) (at i : �
     call_read : is_text_call_at calls k ≡ is_text_call_at (numbers_in first) 0
     call_read = ap (λ (x : List ℕ). is_text_call_at x k) calls_read_lem ∙ call_laid calls₀ (numbers_in first) k room five
 
-    pub read_no_call : is_text_call_at calls k ≡ false → LineRead (drop from text) calls₀ calls k 0
+    pub read_no_call : is_text_call_at calls k ≡ false → LineRead (drop from text) calls₀ calls k None
     read_no_call z =
         departs_so text calls₀ from k calls g.front
         (line_then ∙ and-false (leb (length first.bytes + 1) 64) (is_text_call_at (numbers_in first) 0) (sym call_read ∙ z))
 
-    pub read_whole : at - from ≤ 64 → is_text_call_at calls k ≡ true → LineRead (drop from text) calls₀ calls k (at - from)
+    pub read_whole : at - from ≤ 64 → is_text_call_at calls k ≡ true → LineRead (drop from text) calls₀ calls k (Some (at - from))
     read_whole w y =
         let e = size_read in
         let t : is_line first ≡ true =
@@ -108,4 +109,4 @@ module _ (text calls₀ : List ℕ) (from k : ℕ) (calls : List ℕ) (at i : �
         (sym call_read ∙ y)
         in
         let s : at - from ≡ size_of first = omega arith in
-        record { sized = s ∙ sym (rw t); read = λ x. calls_read_lem; front = g.front }
+        record { sized = ap Some s ∙ sym (rw t); read = λ x. calls_read_lem; front = g.front }

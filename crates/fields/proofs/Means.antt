@@ -9,6 +9,7 @@ use lib.Dec.{eqb, leb, eqb-suc-suc}
 use lib.ListN.{length, get_or, drop, length-append, get_or-eq_default}
 use lib.Seq.{drop-append-add, get_or-append_seam}
 use borrow.Author.Tests.{eqb-true, eqb-false, ne_eqb, eq-eqb}
+use Rattle.std.specs.Prelude.{Some, None}
 use Rattle.values.specs.Lists.{all}
 use Rattle.values.proofs.Cases.{case, and_left, and_right, and-false, clash}
 use Rattle.printed.specs.Printed.{line_feed, comma}
@@ -95,28 +96,28 @@ pub record Means (n : ℕ) (t : List ℕ) : Type 0 where
   pub read : (scan (suc n) t).good ≡ true
       → ((scan (suc n) t).numbers ≡ numbers_in (first_line t)) × ((scan (suc n) t).size ≡ size_of (first_line t))
 
-means_bad : (n : ℕ) (t : List ℕ) → (field_at (behind n) t).size ≡ 0 → fields_test (suc n) (first_line t) ≡ false → Means n t
+means_bad : (n : ℕ) (t : List ℕ) → field_at (behind n) t ≡ None → fields_test (suc n) (first_line t) ≡ false → Means n t
 unfolding scan
 means_bad n t z f =
-    let g : (scan (suc n) t).good ≡ false = rw (eq-eqb (field_at (behind n) t).size 0 z) in
+    let g : (scan (suc n) t).good ≡ false = rw z in
     record { good = g ∙ sym f; read = λ y. clash y g }
 
 module _ (n : ℕ) (t ds : List ℕ) (e : digits_of t ≡ ds) (h : all is_digit ds ≡ true) (b : ℕ) (k : get_or t (length ds) 0 ≡ b) where
-  field_is : b ≡ behind n → is_field ds ≡ true → field_at (behind n) t ≡ field_from (value_of ds) (length ds + 1)
+  field_is : b ≡ behind n → is_field ds ≡ true → field_at (behind n) t ≡ Some (field_from (value_of ds) (length ds + 1))
   unfolding field_at
   field_is q f =
       let x : (leb 1 (length ds) && leb (value_of ds) 0xFFFFFFFF) ≡ true = rw h at f in
       let y : eqb b (behind n) ≡ true = eq-eqb b (behind n) q in
       rw (e, k, y, and_left (leb 1 (length ds)) (leb (value_of ds) 0xFFFFFFFF) x, and_right (leb 1 (length ds)) (leb (value_of ds) 0xFFFFFFFF) x)
 
-  field_no : is_field ds ≡ false → (field_at (behind n) t).size ≡ 0
+  field_no : is_field ds ≡ false → field_at (behind n) t ≡ None
   unfolding field_at
   field_no f =
       let x : (leb 1 (length ds) && leb (value_of ds) 0xFFFFFFFF) ≡ false = rw h at f in
       rw (e, k)
       (case (leb 1 (length ds)) (λ y. rw (y, (rw y at x))) (λ y. rw y))
 
-  field_behind : (b ≡ behind n → ⊥) → (field_at (behind n) t).size ≡ 0
+  field_behind : (b ≡ behind n → ⊥) → field_at (behind n) t ≡ None
   unfolding field_at
   field_behind z =
       let y : (leb 1 (length ds) && (leb (value_of ds) 0xFFFFFFFF && eqb b (behind n))) ≡ false =
@@ -131,8 +132,7 @@ module _ (n : ℕ) (t ds : List ℕ) (e : digits_of t ≡ ds) (h : all is_digit 
   unfolding scan
   scan_with q f =
       let y = field_is q f in
-      let z : eqb (length ds + 1) 0 ≡ false = ne_eqb (length ds + 1) 0 (λ w. absurd (omega arith)) in
-      (rw (y, z), rw (y, z), rw (y, z))
+      (rw y, rw y, rw y)
 
 -- what is known of a text with one field less
 abbrev Below : ℕ → List ℕ → Type 0

@@ -1,15 +1,18 @@
 -- Lines read one after another: the loop that reads them into a list of calls.
 use Prim.Native.Nat.{ℕ, suc, ◌+◌, ◌*◌, ◌-◌, ◌≤◌, ◌<◌}
 use native.Mathlib.Omega.{arith}
-use native.Mathlib.Nat.{sub-zero, add-zero, zero-add}
+use native.Mathlib.Nat.{add-zero}
 use mathlib.Core.Bool.{Bool, true, false, cond}
-use mathlib.Core.Path.{◌≡◌, refl, sym, ◌∙◌, ap}
+use mathlib.Core.Path.{◌≡◌, refl, sym, ◌∙◌, ap, subst}
 use mathlib.Core.List.{List, [], ◌++◌, append-nil, append_assoc}
 use lib.ListN.{length, take, drop, length-append}
 use lib.Seq.{sets-eq, drop-drop, length-take-le, take_at}
-use Rattle.values.proofs.Cases.{case}
+use Rattle.std.specs.Prelude.{Option, Some, None, is_some, unwrap_or}
+use Rattle.values.proofs.Cases.{case, clash}
 use Rattle.fields.specs.Lines.{Line, numbers_in, is_line}
-use Rattle.fields.specs.Parse.{first_line, size_of, decided, departing, open_line, Parsed, parse}
+use Rattle.fields.specs.Parse.{first_line, size_of, decided, departing, open_line, verdict_number, Parsed, parse}
+use Rattle.fields.specs.declared.Verdict.{Verdict}
+use Rattle.fields.specs.declared.Verdict.TheVariants.{More}
 use Rattle.fields.specs.Code.{LineRead, LinesRead}
 use Rattle.fields.proofs.First.{line_five}
 
@@ -23,22 +26,9 @@ pub record Parsing (ends : Bool) (n : ℕ) (text calls₀ calls : List ℕ) (at 
   pub verdict : (parse ends (n - k) (drop at text)).verdict ≡ (parse ends n text).verdict
   pub numbers : take (k * 5) calls ++ (parse ends (n - k) (drop at text)).numbers ≡ (parse ends n text).numbers
 
-pub parsing_start : (ends : Bool) (n : ℕ) (text calls₀ : List ℕ) → Parsing ends n text calls₀ calls₀ 0 0
-parsing_start ends n text calls₀ =
-    let e = sub-zero n in
-    record {
-      low = omega arith;
-      high = omega arith;
-      long = refl;
-      made = zero-add _ ∙ ap (λ (k : ℕ). (parse ends k text).made) e;
-      end = zero-add _ ∙ ap (λ (k : ℕ). (parse ends k text).end) e;
-      verdict = ap (λ (k : ℕ). (parse ends k text).verdict) e;
-      numbers = ap (λ (k : ℕ). (parse ends k text).numbers) e;
-    }
-
 module _ (ends : Bool) (n : ℕ) (text calls₀ calls : List ℕ) (at k : ℕ) (g : Parsing ends n text calls₀ calls at k) where
   -- nothing more is read, where what is still to be read is nothing but a verdict
-  stops : (v : ℕ) (after : List ℕ) → parse ends (n - k) (drop at text) ≡ (record { numbers = []; made = 0; end = 0; verdict = v })
+  stops : (v : Verdict) (after : List ℕ) → parse ends (n - k) (drop at text) ≡ (record { numbers = []; made = 0; end = 0; verdict = verdict_number v })
       → take (k * 5) after ≡ take (k * 5) calls → LinesRead (parse ends n text) after (record { made = k; end = at; verdict = v })
   stops v after e f =
       record {
@@ -48,35 +38,36 @@ module _ (ends : Bool) (n : ℕ) (text calls₀ calls : List ℕ) (at k : ℕ) (
         numbers = f ∙ sym (append-nil (take (k * 5) calls)) ∙ ap (λ (p : Parsed). take (k * 5) calls ++ p.numbers) (sym e) ∙ g.numbers;
       }
 
-  pub parsing_end : n ≤ k → LinesRead (parse ends n text) calls (record { made = k; end = at; verdict = 0 })
+  pub parsing_end : n ≤ k → LinesRead (parse ends n text) calls (record { made = n; end = at; verdict = More })
   unfolding parse
-  parsing_end h = let e : n - k ≡ 0 = omega arith in stops 0 calls (ap (λ (j : ℕ). parse ends j (drop at text)) e) refl
+  parsing_end h =
+      let low = g.low in
+      let same : k ≡ n = omega arith in
+      let e : n - k ≡ 0 = omega arith in
+      subst (λ (j : ℕ). LinesRead (parse ends n text) calls (record { made = j; end = at; verdict = More })) same
+      (stops More calls (ap (λ (j : ℕ). parse ends j (drop at text)) e) refl)
 
-  module _ (h : k < n) (after : List ℕ) (size : ℕ) (r : LineRead (drop at text) calls after k size) where
+  module _ (h : k < n) (after : List ℕ) where
     abbrev l : Line
     l = first_line (drop at text)
 
     one_more : parse ends (n - k) (drop at text) ≡ parse ends (suc (n - (k + 1))) (drop at text)
     one_more = let e : n - k ≡ suc (n - (k + 1)) = omega arith in ap (λ (j : ℕ). parse ends j (drop at text)) e
 
-    is_none : size ≡ 0 → is_line l ≡ false
-    is_none z =
-        case (is_line l) (λ t. let e : size ≡ size_of l = r.sized ∙ rw t in absurd (omega arith)) (λ t. t)
-
-    is_one : (size ≡ 0 → ⊥) → is_line l ≡ true
-    is_one z = case (is_line l) (λ t. t) (λ t. absurd (z (r.sized ∙ rw t)))
-
-    pub parsing_stop : (v : ℕ) → size ≡ 0 → v ≡ cond (decided ends (drop at text)) departing open_line
+    pub parsing_stop : (v : Verdict) → LineRead (drop at text) calls after k None
+        → verdict_number v ≡ cond (decided ends (drop at text)) departing open_line
         → LinesRead (parse ends n text) after (record { made = k; end = at; verdict = v })
     unfolding parse
-    parsing_stop v z e = stops v after (one_more ∙ rw (is_none z, e)) r.front
+    parsing_stop v r e =
+        let none : is_line l ≡ false = case (is_line l) (λ t. let z = ap is_some r.sized in let y : false ≡ true = z ∙ rw t in clash {b = false} y refl) (λ t. t) in
+        stops v after (one_more ∙ rw (none, e)) r.front
 
-    pub parsing_on : (size ≡ 0 → ⊥) → at + size ≤ length text → k * 5 + 5 ≤ length calls → length after ≡ length calls
-        → Parsing ends n text calls₀ after (at + size) (k + 1)
+    pub parsing_on : (size : ℕ) → LineRead (drop at text) calls after k (Some size) → at + size ≤ length text → k * 5 + 5 ≤ length calls
+        → length after ≡ length calls → Parsing ends n text calls₀ after (at + size) (k + 1)
     unfolding parse
-    parsing_on z w room long =
-        let t = is_one z in
-        let s : size ≡ size_of l = r.sized ∙ rw t in
+    parsing_on size r w room long =
+        let t : is_line l ≡ true = case (is_line l) (λ t. t) (λ t. let z = ap is_some r.sized in let y : true ≡ false = z ∙ rw t in clash {b = true} refl y) in
+        let s : size ≡ size_of l = ap (λ (o : Option ℕ). unwrap_or o 0) r.sized ∙ rw t in
         let vs : List ℕ = numbers_in l in
         let five = line_five l t in
         let p : Parsed = parse ends (n - (k + 1)) (drop (at + size) text) in

@@ -2,13 +2,12 @@
 use Prim.Native.Nat.{ℕ, zero, suc, ◌+◌, ◌*◌, ◌-◌, ◌≤◌, ◌<◌}
 use native.Mathlib.Omega.{arith}
 use native.Mathlib.Nat.{add-zero}
-use mathlib.Core.Bool.{Bool, true, false, cond}
-use mathlib.Core.Path.{◌≡◌, refl, sym, ◌∙◌, ap}
+use mathlib.Core.Bool.{Bool, true, false}
+use mathlib.Core.Path.{◌≡◌, sym, ◌∙◌, ap}
 use mathlib.Core.List.{List, [], ◌∷◌}
-use lib.Dec.{eqb}
 use lib.ListN.{length, take, drop, set, length-set}
 use lib.Seq.{sets, drop-drop, take-set-le}
-use borrow.Author.Tests.{eq-eqb, ne_eqb}
+use Rattle.std.specs.Prelude.{Option, Some, None}
 use Rattle.fields.specs.Code.{field_at, behind}
 use Rattle.fields.specs.declared.Field.{Field}
 
@@ -24,11 +23,14 @@ scanned_from good numbers size = record { good = good; numbers = numbers; size =
 abbrev with_field : Field → Scanned → Scanned
 with_field f s = scanned_from s.good (f.value ∷ s.numbers) (f.size + s.size)
 
+-- a field read, before those behind its bytes
+abbrev with_read : Option Field → (ℕ → Scanned) → Scanned
+with_read None rest = scanned_from false [] 0
+with_read (Some f) rest = with_field f (rest f.size)
+
 unfoldable pub scan : ℕ → List ℕ → Scanned
 scan zero text = scanned_from true [] 0
-scan (suc n) text =
-    cond (eqb (field_at (behind n) text).size 0) (scanned_from false [] 0)
-    (with_field (field_at (behind n) text) (scan n (drop (field_at (behind n) text).size text)))
+scan (suc n) text = with_read (field_at (behind n) text) (λ (size : ℕ). scan n (drop size text))
 
 -- what holds before each turn of the loop
 pub record Scanning (text calls₀ : List ℕ) (from k : ℕ) (calls : List ℕ) (at i : ℕ) : Type 0 where
@@ -41,41 +43,23 @@ pub record Scanning (text calls₀ : List ℕ) (from k : ℕ) (calls : List ℕ)
   pub size : at + (scan (5 - i) (drop at text)).size ≡ from + (scan 5 (drop from text)).size
   pub front : take (k * 5) calls ≡ take (k * 5) calls₀
 
-pub scanning_start : (text calls₀ : List ℕ) (from k : ℕ) → from ≤ length text → Scanning text calls₀ from k calls₀ from 0
-scanning_start text calls₀ from k h =
-    record {
-      low = omega arith;
-      behind_from = omega arith;
-      high = h;
-      long = refl;
-      good = refl;
-      numbers = ap (λ (j : ℕ). sets calls₀ j (scan 5 (drop from text)).numbers) (add-zero (k * 5));
-      size = refl;
-      front = refl;
-    }
-
 module _ (text calls₀ : List ℕ) (from k : ℕ) (calls : List ℕ) (at i : ℕ) (g : Scanning text calls₀ from k calls at i) where
-  module _ (h : i < 5) (f : Field) (e : f ≡ field_at (behind (4 - i)) (drop at text)) where
+  module _ (h : i < 5) where
     one_more : scan (5 - i) (drop at text) ≡ scan (suc (4 - i)) (drop at text)
     one_more = let q : 5 - i ≡ suc (4 - i) = omega arith in ap (λ (n : ℕ). scan n (drop at text)) q
 
     -- no field stands here
-    pub scanning_bad : f.size ≡ 0 → (scan 5 (drop from text)).good ≡ false
+    pub scanning_bad : None ≡ field_at (behind (4 - i)) (drop at text) → (scan 5 (drop from text)).good ≡ false
     unfolding scan
-    scanning_bad z =
-        let q : (scan (suc (4 - i)) (drop at text)).good ≡ false =
-        rw (eq-eqb (field_at (behind (4 - i)) (drop at text)).size 0 (ap (λ (x : Field). x.size) (sym e) ∙ z))
-        in
+    scanning_bad e =
+        let q : (scan (suc (4 - i)) (drop at text)).good ≡ false = rw (← e) in
         sym g.good ∙ ap (λ (s : Scanned). s.good) one_more ∙ q
 
-    pub scanning_on : (f.size ≡ 0 → ⊥) → at + f.size ≤ length text
+    pub scanning_on : (f : Field) → Some f ≡ field_at (behind (4 - i)) (drop at text) → at + f.size ≤ length text
         → Scanning text calls₀ from k (set calls (k * 5 + i) f.value) (at + f.size) (i + 1)
     unfolding scan
-    scanning_on z w =
-        let n : (field_at (behind (4 - i)) (drop at text)).size ≡ 0 → ⊥ = λ q. z (ap (λ (x : Field). x.size) e ∙ q) in
-        let q : scan (suc (4 - i)) (drop at text) ≡ with_field f (scan (4 - i) (drop f.size (drop at text))) =
-        rw (ne_eqb (field_at (behind (4 - i)) (drop at text)).size 0 n, ← e)
-        in
+    scanning_on f e w =
+        let q : scan (suc (4 - i)) (drop at text) ≡ with_field f (scan (4 - i) (drop f.size (drop at text))) = rw (← e) in
         let u : 4 - i ≡ 5 - (i + 1) = omega arith in
         let d : drop f.size (drop at text) ≡ drop (at + f.size) text = drop-drop f.size at text in
         let s : Scanned = scan (5 - (i + 1)) (drop (at + f.size) text) in

@@ -2,6 +2,8 @@
 use Rattle.std.specs.Prelude.{ℕ, zero, suc, ◌+◌, Bool, true, false, cond, ◌&&◌, ◌||◌, List, [], ◌∷◌, ◌++◌, eqb, leb, length, drop}
 use Rattle.printed.specs.Printed.{line_feed}
 use Rattle.fields.specs.Lines.{Line, line_from, numbers_in, is_line}
+use Rattle.fields.specs.declared.Verdict.{Verdict}
+use Rattle.fields.specs.declared.Verdict.TheVariants.{More, Open, Departs}
 
 -- the first line of a text, as far as the text goes
 unfoldable pub first_line : List ℕ → Line
@@ -26,6 +28,12 @@ open_line = 1
 
 abbrev pub departing : ℕ
 departing = 2
+
+-- the number of each case of the code's
+abbrev pub verdict_number : Verdict → ℕ
+verdict_number More = more
+verdict_number Open = open_line
+verdict_number Departs = departing
 
 -- the numbers of the lines, five a line; how many lines and how many bytes they are; what comes behind them
 pub record Parsed : Type 0 where

@@ -1,7 +1,7 @@
 // Lines of text read as calls: five decimal fields parted by commas.
 #![tactic(auto)]
 
-ghost use Rattle.std.specs.Prelude.{◌≡◌, cond, ◌||◌, ◌+◌, ◌-◌, ◌*◌, ◌≤◌, ◌<◌, leb, length, drop};
+ghost use Rattle.std.specs.Prelude.{◌≡◌, cond, ◌||◌, ◌+◌, ◌-◌, ◌*◌, ◌≤◌, ◌<◌, leb, length, drop, IfSome};
 ghost use Rattle.fields.specs.Lines as lines;
 ghost use Rattle.fields.specs.Parse as parses;
 ghost use Rattle.fields.specs.Code as code;
@@ -20,16 +20,17 @@ const FEED: u8 = 10;
 const COMMA: u8 = 44;
 
 // What comes behind the lines read: lines that may come, a line that is not decided, or a line that departs.
-pub const MORE: u32 = 0;
+#[derive(Clone, Copy)]
+pub enum Verdict {
+    More,
+    Open,
+    Departs,
+}
 
-pub const OPEN: u32 = 1;
-
-pub const DEPARTS: u32 = 2;
-
-// A number, and the place behind its digits; or one above that of any field, and the place of the digit that makes it so.
+// A number of 32 bits, and the place behind its digits.
 #[derive(Clone, Copy)]
 pub struct Number {
-    pub value: u64,
+    pub value: u32,
     pub end: usize,
 }
 
@@ -41,31 +42,32 @@ fn digit(b: u8) -> u64
     (b - 48) as u64
 }
 
-// The number of the digits from a place on. It stops where the number is above that of any field.
-fn read_number(text: &[u8], from: usize) -> Number
+// The number of the digits from a place on; none where it is above that of any field.
+fn read_number(text: &[u8], from: usize) -> Option<Number>
     requires { from ≤ length text.now }
-    ensures { code.Reads (code.digits_of (drop from text.now)) from result.value result.end × (result.end ≤ length text.now) }
+    ensures { code.Reads (code.digits_of (drop from text.now)) from result × IfSome result (λ n. n.end ≤ length text.now) }
 {
     let mut value: u64 = 0;
-    let mut i = from;
-    while i < text.len() {
+    for i in from..text.len() {
         let b = text[i];
-        if b < 48 {
-            return Number { value, end: i };
-        }
-        if b > 57 {
-            return Number { value, end: i };
+        if !b.is_ascii_digit() {
+            return Some(Number {
+                value: value as u32,
+                end: i,
+            });
         }
         value = value * 10 + digit(b);
         if value > GREATEST {
-            return Number { value, end: i };
+            return None;
         }
-        i += 1;
     }
-    Number { value, end: i }
+    Some(Number {
+        value: value as u32,
+        end: text.len(),
+    })
 }
 
-// A field, and how many bytes it has with the byte behind it; all zeros for none.
+// A field, and how many bytes it has with the byte behind it.
 #[derive(Clone, Copy)]
 pub struct Field {
     pub value: u32,
@@ -73,28 +75,19 @@ pub struct Field {
 }
 
 // The field at a place, with the byte `by` behind it.
-pub fn read_field(text: &[u8], from: usize, by: u8) -> Field
+pub fn read_field(text: &[u8], from: usize, by: u8) -> Option<Field>
     requires { (from ≤ length text.now) × (1 ≤ by) }
-    ensures { (result ≡ code.field_at by (drop from text.now)) × (from + result.size ≤ length text.now) }
+    ensures { (result ≡ code.field_at by (drop from text.now)) × IfSome result (λ f. from + f.size ≤ length text.now) }
 {
-    let n = read_number(text, from);
+    let n = read_number(text, from)?;
     let end = n.end;
-    if n.value > GREATEST {
-        return Field { value: 0, size: 0 };
+    if end == from || end == text.len() || text[end] != by {
+        return None;
     }
-    if end == from {
-        return Field { value: 0, size: 0 };
-    }
-    if end == text.len() {
-        return Field { value: 0, size: 0 };
-    }
-    if text[end] != by {
-        return Field { value: 0, size: 0 };
-    }
-    Field {
-        value: n.value as u32,
+    Some(Field {
+        value: n.value,
         size: end + 1 - from,
-    }
+    })
 }
 
 // The byte behind field i of five.
@@ -110,37 +103,25 @@ fn is_text_call_at(calls: &[u32], k: usize) -> bool
     requires { k * 5 + 5 ≤ length calls.now }
     ensures { result ≡ lines.is_text_call_at calls.now k }
 {
-    if trace::is_call_at(calls, k) {
-        return calls[k * 5] <= LAST_CALL;
-    }
-    false
+    trace::is_call_at(calls, k) && calls[k * 5] <= LAST_CALL
 }
 
-// The line at a place, read as call k of a list of five numbers a call: its size, or 0 where it departs.
-fn read_line(text: &[u8], from: usize, calls: &mut [u32], k: usize) -> usize
+// The line at a place, read as call k of a list of five numbers a call: its size; none where it departs.
+fn read_line(text: &[u8], from: usize, calls: &mut [u32], k: usize) -> Option<usize>
     requires { (from ≤ length text.now) × (k * 5 + 5 ≤ length calls.old) }
     ensures { code.LineRead (drop from text.now) calls.old calls.new k result
-        × (from + result ≤ length text.now) }
+        × IfSome result (λ size. from + size ≤ length text.now) }
 {
     let mut at = from;
-    let mut i: usize = 0;
-    while i < 5 {
-        let f = read_field(text, at, behind(i));
-        let size = f.size;
-        if size == 0 {
-            return 0;
-        }
+    for i in 0..5 {
+        let f = read_field(text, at, behind(i))?;
         calls[k * 5 + i] = f.value;
-        at += size;
-        i += 1;
+        at += f.size;
     }
-    if at - from > LONGEST {
-        return 0;
+    if at - from <= LONGEST && is_text_call_at(calls, k) {
+        return Some(at - from);
     }
-    if is_text_call_at(calls, k) {
-        return at - from;
-    }
-    0
+    None
 }
 
 // Whether the line at a place has ended, or has 64 bytes without an end.
@@ -149,35 +130,19 @@ fn is_decided(text: &[u8], from: usize) -> bool
     ensures { result ≡ ((parses.first_line (drop from text.now)).ended
         || leb 64 (length (parses.first_line (drop from text.now)).bytes)) }
 {
-    let mut i = from;
-    let mut left = LONGEST;
-    while left > 0 {
-        if i == text.len() {
-            return false;
-        }
-        if text[i] == FEED {
-            return true;
-        }
-        i += 1;
-        left -= 1;
-    }
-    true
+    let rest = &text[from..];
+    rest.len() >= LONGEST || rest.contains(&FEED)
 }
 
 // What comes at a place whose line, as far as the text goes, has not the form of a line: one that departs, or one that is not decided.
-fn verdict(text: &[u8], from: usize, ends: bool) -> u32
+fn verdict_at(text: &[u8], from: usize, ends: bool) -> Verdict
     requires { from ≤ length text.now }
-    ensures { result ≡ cond (parses.decided ends (drop from text.now)) parses.departing parses.open_line }
+    ensures { parses.verdict_number result ≡ cond (parses.decided ends (drop from text.now)) parses.departing parses.open_line }
 {
-    if is_decided(text, from) {
-        return DEPARTS;
+    if is_decided(text, from) || from < text.len() && ends {
+        return Verdict::Departs;
     }
-    if ends {
-        if from < text.len() {
-            return DEPARTS;
-        }
-    }
-    OPEN
+    Verdict::Open
 }
 
 // How many lines were read, the place behind them, and what comes there.
@@ -185,7 +150,7 @@ fn verdict(text: &[u8], from: usize, ends: bool) -> u32
 pub struct Parsed {
     pub made: usize,
     pub end: usize,
-    pub verdict: u32,
+    pub verdict: Verdict,
 }
 
 // At most n lines at the front of a text, read into a list of five numbers a call.
@@ -195,22 +160,19 @@ pub fn parse(text: &[u8], ends: bool, calls: &mut [u32], n: usize) -> Parsed
         × (result.end ≤ length text.now) × (result.made ≤ n) }
 {
     let mut at: usize = 0;
-    let mut k: usize = 0;
-    while k < n {
-        let size = read_line(text, at, calls, k);
-        if size == 0 {
+    for k in 0..n {
+        let Some(size) = read_line(text, at, calls, k) else {
             return Parsed {
                 made: k,
                 end: at,
-                verdict: verdict(text, at, ends),
+                verdict: verdict_at(text, at, ends),
             };
-        }
+        };
         at += size;
-        k += 1;
     }
     Parsed {
-        made: k,
+        made: n,
         end: at,
-        verdict: MORE,
+        verdict: Verdict::More,
     }
 }

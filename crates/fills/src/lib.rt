@@ -6,7 +6,6 @@ ghost use Rattle.bus.specs.Physical.{physical, line_aborts};
 ghost use Rattle.buffer.specs.Buffer.{ready};
 ghost use Rattle.buffer.specs.Packing.{backing_of};
 ghost use Rattle.buffer.specs.Ranges.{Fits, Left};
-ghost use Rattle.cache.specs.Copies.{Continues};
 ghost use Rattle.cache.specs.Dcache as spec;
 ghost use Rattle.cache.specs.Packing.{line_of, side_of, SentIs, SendsLine, FillsLine};
 
@@ -18,22 +17,7 @@ fn read_line(store: &mut [u8], at: usize, memory: &[u8], from: usize)
     requires { (at + 32 ≤ length store.old) × (from + 32 ≤ length memory.now) }
     ensures { store.new ≡ spec.copied store.old at memory.now from 32 }
 {
-    let low = cleans::half_at(memory, from);
-    let high = cleans::half_at(memory, from + 16);
-    put_half(store, at, low);
-    put_half(store, at + 16, high);
-}
-
-// Sixteen bytes take their place, behind others.
-fn put_half(store: &mut [u8], at: usize, half: [u8; 16])
-    requires { at + 16 ≤ length store.old }
-    ensures { Continues store.old at half store.new 16 }
-{
-    let mut i: usize = 0;
-    while i < 16 {
-        store[at + i] = half[i];
-        i += 1;
-    }
+    store[at..at + 32].copy_from_slice(&memory[from..from + 32]);
 }
 
 // The word of a valid clean line.

@@ -1,7 +1,7 @@
 -- Line feeds stored behind lines: the loop that stores them.
 use Prim.Native.Nat.{ℕ, suc, ◌+◌, ◌*◌, ◌-◌, ◌≤◌, ◌<◌}
 use native.Mathlib.Omega.{arith}
-use native.Mathlib.Nat.{sub-zero, suc-mul}
+use native.Mathlib.Nat.{suc-mul}
 use mathlib.Core.Path.{◌≡◌, refl, sym, ◌∙◌, ap}
 use mathlib.Core.List.{List, [], ◌∷◌, ◌++◌, append_assoc}
 use lib.ListN.{length, take, drop, set, replicate, length-set, length-append, length-replicate, replicate-append-replicate, take-append-drop}
@@ -65,17 +65,6 @@ pub record Ending (b₀ : List ℕ) (from lines fields : ℕ) (b : List ℕ) (at
   pub whole : over b at (lines_separators (lines - i) fields) ≡ over b₀ from (lines_separators lines fields)
 
 module _ (b₀ : List ℕ) (from lines fields : ℕ) where
-  pub ending_start : drop from b₀ ≡ replicate (length b₀ - from) comma → Ending b₀ from lines fields b₀ from 0
-  ending_start e =
-      let z = sub-zero lines in
-      record {
-        low = omega arith;
-        long = refl;
-        room = rw z;
-        commas = e;
-        whole = ap (λ (k : ℕ). over b₀ from (lines_separators k fields)) z;
-      }
-
   module _ (b : List ℕ) (at i : ℕ) (g : Ending b₀ from lines fields b at i) where
     module _ (h : i < lines) where
       fewer : lines - i ≡ suc (lines - (i + 1))

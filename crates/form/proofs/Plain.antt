@@ -10,6 +10,7 @@ use lib.Dec.{eqb, leb, leb-suc-suc}
 use lib.ListN.{length, get_or, drop}
 use lib.Seq.{get_or-drop}
 use borrow.Author.Tests.{leb-true, le-leb, lt-leb, eq-eqb, ne_eqb}
+use Rattle.std.specs.Prelude.{Some, None}
 use Rattle.values.proofs.Cases.{case, and_left, and-false}
 use Rattle.printed.specs.Printed.{zero_digit}
 use Rattle.fields.specs.Lines.{is_digit, value_of}
@@ -21,28 +22,33 @@ use Rattle.form.specs.Code.{plain_at}
 
 -- ---- the returns
 
-module _ (text : List ℕ) (from by : ℕ) (f : Field) (e : f ≡ field_at by (drop from text)) where
-  -- the first byte of the field
-  first_is : get_or (drop from text) 0 0 ≡ get_or text from 0
-  first_is = get_or-drop from text 0 0 ∙ ap (λ (j : ℕ). get_or text j 0) (add-zero from)
-
-  -- at least two digits, of which the first is 0
-  pub plain_zero : 3 ≤ f.size → get_or text from 0 ≡ zero_digit → field_from 0 0 ≡ plain_at by (drop from text)
+module _ (text : List ℕ) (from by : ℕ) where
+  -- no field
+  pub plain_none : None ≡ field_at by (drop from text) → None ≡ plain_at by (drop from text)
   unfolding plain_at
-  plain_zero h z =
-      rw (← e, le-leb 3 f.size h, eq-eqb (get_or (drop from text) 0 0) zero_digit (first_is ∙ z))
+  plain_none e = rw (← e)
 
-  -- the first digit is not 0
-  pub plain_other : (get_or text from 0 ≡ zero_digit → ⊥) → f ≡ plain_at by (drop from text)
-  unfolding plain_at
-  plain_other z =
-      let t : eqb (get_or (drop from text) 0 0) zero_digit ≡ false = ne_eqb (get_or (drop from text) 0 0) zero_digit (λ q. z (sym first_is ∙ q)) in
-      rw (← e, t, and-false (leb 3 f.size) false refl)
+  module _ (f : Field) (e : Some f ≡ field_at by (drop from text)) where
+    -- the first byte of the field
+    first_is : get_or (drop from text) 0 0 ≡ get_or text from 0
+    first_is = get_or-drop from text 0 0 ∙ ap (λ (j : ℕ). get_or text j 0) (add-zero from)
 
-  -- one digit at most
-  pub plain_short : f.size < 3 → f ≡ plain_at by (drop from text)
-  unfolding plain_at
-  plain_short h = rw (← e, lt-leb 3 f.size h)
+    -- at least two digits, of which the first is 0
+    pub plain_zero : 3 ≤ f.size → get_or text from 0 ≡ zero_digit → None ≡ plain_at by (drop from text)
+    unfolding plain_at
+    plain_zero h z = rw (← e, le-leb 3 f.size h, eq-eqb (get_or (drop from text) 0 0) zero_digit (first_is ∙ z))
+
+    -- the first digit is not 0
+    pub plain_other : (get_or text from 0 ≡ zero_digit → ⊥) → Some f ≡ plain_at by (drop from text)
+    unfolding plain_at
+    plain_other z =
+        let t : eqb (get_or (drop from text) 0 0) zero_digit ≡ false = ne_eqb (get_or (drop from text) 0 0) zero_digit (λ q. z (sym first_is ∙ q)) in
+        rw (← e, t, and-false (leb 3 f.size) false refl)
+
+    -- one digit at most
+    pub plain_short : f.size < 3 → Some f ≡ plain_at by (drop from text)
+    unfolding plain_at
+    plain_short h = rw (← e, lt-leb 3 f.size h)
 
 -- ---- what a place takes
 
@@ -86,12 +92,12 @@ module _ (by : ℕ) (text : List ℕ) where
   whole = field_from (value_of ds) (length ds + 1)
 
   -- where there is no field there is none without leading zeros
-  none_plain : (some && (small && ends)) ≡ false → plain_at by text ≡ field_from 0 0
+  none_plain : (some && (small && ends)) ≡ false → plain_at by text ≡ None
   unfolding plain_at field_at
   none_plain t = rw t
 
   -- where there is one, it is one without leading zeros unless it has them
-  field_plain : (some && (small && ends)) ≡ true → plain_at by text ≡ cond (not zeros) whole (field_from 0 0)
+  field_plain : (some && (small && ends)) ≡ true → plain_at by text ≡ cond (not zeros) (Some whole) None
   unfolding plain_at field_at
   field_plain t =
       let l : 1 ≤ length ds = leb-true 1 (length ds) (and_left some (small && ends) t) in
@@ -102,12 +108,12 @@ module _ (by : ℕ) (text : List ℕ) where
       two : (n : ℕ) → leb 3 (n + 1) ≡ leb 2 n
       two n = ap (leb 3) (add-one n) ∙ leb-suc-suc 2 n
 
-      turned : (b : Bool) → cond b (field_from 0 0) whole ≡ cond (not b) whole (field_from 0 0)
+      turned : (b : Bool) → cond b None (Some whole) ≡ cond (not b) (Some whole) None
       turned true = refl
       turned false = refl
 
   -- a field without leading zeros is read exactly where a place of a number of 32 bits takes one
-  pub plain_is : plain_at by text ≡ cond (is_number most32 ds && ends) whole (field_from 0 0)
+  pub plain_is : plain_at by text ≡ cond (is_number most32 ds && ends) (Some whole) None
   plain_is =
       let order : (is_number most32 ds && ends) ≡ (some && (small && ends) && not zeros) = tests some zeros small ends in
       case (some && (small && ends)) (λ t. field_plain t ∙ sym (rw (order, t))) (λ t. none_plain t ∙ sym (rw (order, t)))

@@ -9,6 +9,7 @@ use lib.Dec.{eqb}
 use lib.ListN.{length, get_or, set, take, drop, length-set, length-map, length-drop, get_or-map, drop_of_length-le}
 use lib.Seq.{drop-cons, drop-drop, take_all, take-suc-set, append_snoc}
 use borrow.Author.Tests.{eqb-true, eqb-false, eq-eqb, ne_eqb}
+use Rattle.std.specs.Prelude.{Option, Some, None, is_some, unwrap_or}
 use Rattle.values.proofs.Cases.{case, clash}
 use Rattle.fields.specs.Lines.{value_of}
 use Rattle.fields.specs.Code.{digits_of, field_from}
@@ -29,7 +30,7 @@ places_more separators k h =
 
 -- ---- a place of a number of 32 bits
 
-module _ (by : ℕ) (ps : List Place) (text : List ℕ) (f : Field) (e : f ≡ plain_at by text) where
+module _ (by : ℕ) (ps : List Place) (text : List ℕ) where
   -- whether the place takes the number in front of the text
   abbrev taken : Bool
   taken = is_number most32 (digits_of text) && eqb (get_or text (length (digits_of text)) 0) by
@@ -37,20 +38,22 @@ module _ (by : ℕ) (ps : List Place) (text : List ℕ) (f : Field) (e : f ≡ p
   abbrev whole : Field
   whole = field_from (value_of (digits_of text)) (length (digits_of text) + 1)
 
-  field_is : (t : Bool) → taken ≡ t → f ≡ cond t whole (field_from 0 0)
-  field_is t h = e ∙ plain_is by text ∙ ap (λ (b : Bool). cond b whole (field_from 0 0)) h
+  field_is : (f : Option Field) → f ≡ plain_at by text → (t : Bool) → taken ≡ t → f ≡ cond t (Some whole) None
+  field_is f e t h = e ∙ plain_is by text ∙ ap (λ (b : Bool). cond b (Some whole) None) h
 
   -- no field: the text departs
-  pub place_bad : f.size ≡ 0 → read_by (place most32 by ∷ ps) text ≡ numbers_from false []
+  pub place_bad : None ≡ plain_at by text → read_by (place most32 by ∷ ps) text ≡ numbers_from false []
   unfolding read_by
-  place_bad z =
-      case taken (λ t. let s = ap (λ (x : Field). x.size) (field_is true t) in absurd (omega arith)) (λ t. rw t)
+  place_bad e =
+      case taken (λ t. let z : false ≡ true = ap is_some (field_is None e true t) in clash {b = false} z refl) (λ t. rw t)
 
   -- a field: its number, and what is read behind it
-  pub place_good : (f.size ≡ 0 → ⊥) → read_by (place most32 by ∷ ps) text ≡ with_number f.value (read_by ps (drop f.size text))
+  pub place_good : (f : Field) → Some f ≡ plain_at by text → read_by (place most32 by ∷ ps) text ≡ with_number f.value (read_by ps (drop f.size text))
   unfolding read_by
-  place_good z =
-      case taken (λ t. let g = field_is true t in rw (t, g)) (λ t. absurd (z (ap (λ (x : Field). x.size) (field_is false t))))
+  place_good f e =
+      case taken
+      (λ t. let g : f ≡ whole = ap (λ (o : Option Field). unwrap_or o whole) (field_is (Some f) e true t) in rw (t, g))
+      (λ t. let z : true ≡ false = ap is_some (field_is (Some f) e false t) in clash {b = true} refl z)
 
 -- ---- the loop
 
@@ -69,24 +72,24 @@ module _ (separators text ns₀ ns : List ℕ) (at k : ℕ) (g : Reading (places
   abbrev ps : List Place
   ps = places_of separators
 
-  module _ (h : k < length separators) (f : Field) (e : f ≡ plain_at (get_or separators k 0) (drop at text)) where
+  module _ (h : k < length separators) where
     -- no number stands here
-    pub reading_bad : f.size ≡ 0 → NumbersRead ps text ns false
-    reading_bad z =
+    pub reading_bad : None ≡ plain_at (get_or separators k 0) (drop at text) → NumbersRead ps text ns false
+    reading_bad e =
         let b : read_by (drop k ps) (drop at text) ≡ numbers_from false [] =
         ap (λ (l : List Place). read_by l (drop at text)) (places_more separators k h)
-        ∙ place_bad (get_or separators k 0) (drop (k + 1) ps) (drop at text) f e z
+        ∙ place_bad (get_or separators k 0) (drop (k + 1) ps) (drop at text) e
         in
         record { same = ap (λ (r : Numbers). r.formed) (sym b) ∙ g.good; numbered = λ y. clash {b = false} y refl }
 
     -- the number here is stored
-    pub reading_on : (f.size ≡ 0 → ⊥) → at + f.size ≤ length text → length separators ≡ length ns₀
-        → Reading ps text ns₀ (set ns k f.value) (at + f.size) (k + 1)
-    reading_on z w same =
+    pub reading_on : (f : Field) → Some f ≡ plain_at (get_or separators k 0) (drop at text) → at + f.size ≤ length text
+        → length separators ≡ length ns₀ → Reading ps text ns₀ (set ns k f.value) (at + f.size) (k + 1)
+    reading_on f e w same =
         let rest = read_by (drop (k + 1) ps) (drop (at + f.size) text) in
         let b : read_by (drop k ps) (drop at text) ≡ with_number f.value rest =
         ap (λ (l : List Place). read_by l (drop at text)) (places_more separators k h)
-        ∙ place_good (get_or separators k 0) (drop (k + 1) ps) (drop at text) f e z
+        ∙ place_good (get_or separators k 0) (drop (k + 1) ps) (drop at text) f e
         ∙ ap (λ (t : List ℕ). with_number f.value (read_by (drop (k + 1) ps) t)) (drop-drop f.size at text)
         in
         let long = g.long in

@@ -1,7 +1,6 @@
 -- How many bytes the text of numbers has, counted number by number.
 use Prim.Native.Nat.{ℕ, ◌+◌, ◌*◌, ◌≤◌, ◌<◌}
 use native.Mathlib.Omega.{arith}
-use native.Mathlib.Nat.{zero-add}
 use mathlib.Core.Path.{◌≡◌, ap}
 use mathlib.Core.List.{List}
 use lib.ListN.{length, get_or, drop, drop_of_length-le}
@@ -20,9 +19,6 @@ pub record Sizing (ns : List ℕ) (size k : ℕ) : Type 0 where
   pub low : k ≤ length ns
   pub few : size ≤ k * 11
   pub whole : size + text_size (drop k ns) ≡ text_size ns
-
-pub sizing_start : (ns : List ℕ) → Sizing ns 0 0
-sizing_start ns = record { low = omega arith; few = omega arith; whole = zero-add (text_size ns) }
 
 module _ (ns : List ℕ) (size k : ℕ) (g : Sizing ns size k) where
   pub sizing_on : (d : ℕ) → k < length ns → get_or ns k 0 < 0x100000000 → d ≡ length (decimal (get_or ns k 0)) → Sizing ns (size + (d + 1)) (k + 1)

@@ -1,7 +1,7 @@
 -- What the code of crate form reads and lays.
-use Rattle.std.specs.Prelude.{ℕ, zero, suc, ◌+◌, ◌-◌, ◌≤◌, ◌<◌, Bool, true, cond, ◌&&◌, ◌≡◌, List, [], ◌∷◌, ◌++◌, map, eqb, leb, length, get_or, replicate}
+use Rattle.std.specs.Prelude.{ℕ, zero, suc, ◌+◌, ◌-◌, ◌≤◌, ◌<◌, Bool, true, cond, ◌&&◌, ◌≡◌, Option, Some, None, List, [], ◌∷◌, ◌++◌, map, eqb, leb, length, get_or, replicate}
 use Rattle.printed.specs.Printed.{decimal, comma, line_feed, zero_digit}
-use Rattle.fields.specs.Code.{field_from, field_at}
+use Rattle.fields.specs.Code.{field_at}
 use Rattle.fields.specs.declared.Field.{Field}
 use Rattle.form.specs.Texts.{Place, place, read_by}
 use Rattle.form.specs.Form.{most32}
@@ -10,10 +10,14 @@ use Rattle.form.specs.Form.{most32}
 abbrev pub places_of : List ℕ → List Place
 places_of separators = map (place most32) separators
 
--- a field without leading zeros, with the byte `by` behind it, and how many bytes it has with that byte; all zeros where there is none
-unfoldable pub plain_at : ℕ → List ℕ → Field
-plain_at by text =
-    cond (leb 3 (field_at by text).size && eqb (get_or text 0 0) zero_digit) (field_from 0 0) (field_at by text)
+-- a field without leading zeros, by the first byte of its text
+abbrev pub plain_field : ℕ → Option Field → Option Field
+plain_field first None = None
+plain_field first (Some f) = cond (leb 3 f.size && eqb first zero_digit) None (Some f)
+
+-- the field without leading zeros at the front of a text, with the byte `by` behind it, and how many bytes it has with that byte
+unfoldable pub plain_at : ℕ → List ℕ → Option Field
+plain_at by text = plain_field (get_or text 0 0) (field_at by text)
 
 -- how many bytes the text of numbers has
 unfoldable pub text_size : List ℕ → ℕ

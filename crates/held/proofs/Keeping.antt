@@ -1,16 +1,16 @@
 -- What is held: the test of its fields, bytes put out, and what is held behind replayed lines, by each case.
-use Prim.Native.Nat.{ℕ, zero, suc, ◌+◌, ◌-◌, ◌≤◌, ◌<◌, min}
+use Prim.Native.Nat.{ℕ, zero, suc, ◌+◌, ◌-◌, ◌≤◌, min}
 use native.Mathlib.Omega.{arith}
 use native.Mathlib.Nat.{add-zero}
-use mathlib.Core.Bool.{Bool, true, false, not, ◌&&◌}
+use mathlib.Core.Bool.{true, false, not, ◌&&◌}
 use mathlib.Core.Path.{◌≡◌, refl, sym, ◌∙◌, ap}
 use mathlib.Core.List.{List, [], ◌∷◌, ◌++◌}
 use lib.Dec.{leb, eqb}
 use lib.ListN.{length, take, drop, length-drop}
 use lib.Seq.{take-take, length-take-le, take_all}
-use borrow.Author.Tests.{le-leb, lt-leb, ne_eqb, leb-true, eqb-true, not-true}
+use borrow.Author.Tests.{le-leb, leb-true, eqb-true, not-true}
 use Rattle.values.specs.Lists.{any}
-use Rattle.values.proofs.Cases.{case, and_left, and_right, and-false}
+use Rattle.values.proofs.Cases.{case, and_left, and_right}
 use Rattle.machine.specs.Machine.{Machine}
 use Rattle.pieces.specs.Pieces.{padded, is_feed}
 use Rattle.batch.specs.Batch.{lines_limit}
@@ -20,32 +20,6 @@ use Rattle.step.specs.Start.{Started, started}
 -- ---- the test of the fields
 
 module _ (lines held waiting : ℕ) (begun : List ℕ) where
-  abbrev last : Bool
-  last = not (any is_feed (take held begun))
-
-  pub kept_no_lines : lines_limit < lines → false ≡ kept lines held waiting begun
-  unfolding kept
-  kept_no_lines h = sym (rw (lt-leb lines lines_limit h))
-
-  pub kept_no_held : 63 < held → false ≡ kept lines held waiting begun
-  unfolding kept
-  kept_no_held h =
-      let e : (leb held 63 && (leb waiting 64 && last)) ≡ false = rw (lt-leb held 63 h) in
-      sym (and-false (leb lines lines_limit) (leb held 63 && (leb waiting 64 && last)) e)
-
-  pub kept_no_waiting : 64 < waiting → false ≡ kept lines held waiting begun
-  unfolding kept
-  kept_no_waiting h =
-      let e : (leb waiting 64 && last) ≡ false = rw (lt-leb waiting 64 h) in
-      sym (and-false (leb lines lines_limit) (leb held 63 && (leb waiting 64 && last)) (and-false (leb held 63) (leb waiting 64 && last) e))
-
-  pub kept_no_feed : any is_feed (take held begun) ≡ true → false ≡ kept lines held waiting begun
-  unfolding kept
-  kept_no_feed h =
-      let e : last ≡ false = rw h in
-      sym (and-false (leb lines lines_limit) (leb held 63 && (leb waiting 64 && last))
-      (and-false (leb held 63) (leb waiting 64 && last) (and-false (leb waiting 64) last e)))
-
   pub kept_all : lines ≤ lines_limit → held ≤ 63 → waiting ≤ 64 → any is_feed (take held begun) ≡ false → true ≡ kept lines held waiting begun
   unfolding kept
   kept_all a b c d = sym (rw (le-leb lines lines_limit a, le-leb held 63 b, le-leb waiting 64 c, d))
@@ -106,9 +80,9 @@ module _ (m : Machine) (lines made verdict : ℕ) (behind : List ℕ) where
   unfolding settled
   settled_open held begun e f g = rw (e, add-zero (lines + made)) (rw (f, g))
 
-  pub settled_more : (verdict ≡ 2 → ⊥) → (verdict ≡ 1 → ⊥) → held_from m (lines + made) 0 0 0 (padded []) (padded []) ≡ settled m lines made verdict behind
+  pub settled_more : verdict ≡ 0 → held_from m (lines + made) 0 0 0 (padded []) (padded []) ≡ settled m lines made verdict behind
   unfolding settled
-  settled_more a b = rw (ne_eqb verdict 2 a, ne_eqb verdict 1 b, add-zero (lines + made))
+  settled_more e = rw (e, add-zero (lines + made))
 
   -- bytes behind the lines count where they are carried over
   pub settled_same : (other : List ℕ) → (verdict ≡ 1 → behind ≡ other) → settled m lines made verdict behind ≡ settled m lines made verdict other

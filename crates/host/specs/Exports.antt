@@ -1,25 +1,25 @@
 -- What the exported functions answer, in numbers.
-use Rattle.std.specs.Prelude.{ℕ, ◌+◌, ◌*◌, ◌/◌, cond, List, ltb}
+use Rattle.std.specs.Prelude.{ℕ, ◌+◌, ◌*◌, ◌/◌, cond, List, ltb, Result, Ok, Err}
 use Rattle.values.specs.Answers.{status_of}
 use Rattle.rights.specs.Rights.{rights_at}
 use Rattle.bus.specs.Physical.{physical}
 use Rattle.walk.specs.Walk.{walk}
-use Rattle.walk.specs.declared.Mapping.{Mapping}
-use Rattle.walk.specs.declared.Mapping.TheVariants.{Found, Failed}
 use Rattle.tlb.specs.Packing.{word_of}
 use Rattle.trace.specs.Fold.{leaves}
 use Rattle.plain.specs.Plain.{plain_machine}
 use Rattle.plain.specs.Run.{PlainLeft, with_refusal}
 use Rattle.host.specs.declared.PlainRan.{PlainRan}
+use Rattle.values.specs.declared.Cause.{Cause}
+use Rattle.values.specs.declared.Entry.{Entry}
 
 -- an entry of the rights table, and 255 behind its end
 abbrev pub right_code : ℕ → ℕ
 right_code i = cond (ltb i 256) (rights_at i) 255
 
 -- a walk: the entry's word, which is odd, or twice the fault's domain × 16 + status
-abbrev pub mapping_code : Mapping → ℕ
-mapping_code (Found e) = word_of e
-mapping_code (Failed s d) = 2 * (d * 16 + status_of s)
+abbrev pub mapping_code : Result Entry Cause → ℕ
+mapping_code (Ok e) = word_of e
+mapping_code (Err why) = 2 * (why.domain * 16 + status_of why.status)
 
 -- the walk by a table base of which bits 31 to 14 count
 abbrev pub walk_code : List ℕ → List ℕ → ℕ → ℕ → ℕ

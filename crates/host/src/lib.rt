@@ -7,10 +7,9 @@ ghost use Rattle.walk.specs.Ranges.{Ranged};
 ghost use Rattle.access_table.specs.AccessTable.{access_table};
 ghost use Rattle.host.specs.Exports as spec;
 
-use values::{Count, Registers, VirtualAddress};
-use walk::Mapping;
+use values::{Cause, Count, Entry, Registers, VirtualAddress};
 
-// What a run of the plain machine leaves: the five registers, the count of calls, the calls made, and refusal 1 or 0.
+// What a run of the plain machine leaves: the five registers, the count of calls, the calls made, and refusal 1 or 0, a number, as C reads it.
 #[repr(C)]
 #[derive(Clone, Copy)]
 pub struct PlainRan {
@@ -39,13 +38,13 @@ pub fn sa110_rights_table(table: &mut [u8; 256])
 }
 
 // A mapping as a number.
-fn mapping_code(m: Mapping) -> u64
+fn mapping_code(m: Result<Entry, Cause>) -> u64
     requires { Ranged m }
     ensures { result ≡ spec.mapping_code m }
 {
     match m {
-        Mapping::Found(e) => tlb::word_of(e),
-        Mapping::Failed(s, d) => 2 * ((d as u64) * 16 + (values::status_number(s) as u64)),
+        Ok(e) => tlb::word_of(e),
+        Err(why) => 2 * ((why.domain as u64) * 16 + (values::status_number(why.status) as u64)),
     }
 }
 

@@ -1,20 +1,17 @@
 -- An access to a machine without I answers the same, and what it leaves is without I what it leaves of the machine itself.
+use Rattle.std.specs.Prelude.{Option, Some, None, Result, Ok, Err}
 use Prim.Native.Nat.{ℕ}
 use mathlib.Core.Bool.{Bool, true, false, cond}
 use mathlib.Core.Path.{◌≡◌, refl, ap}
 use Rattle.values.specs.declared.Kind.{Kind}
 use Rattle.values.specs.declared.Kind.TheVariants.{Load, SignedLoad, Store, Swap}
 use Rattle.values.specs.declared.Access.{Access}
-use Rattle.values.specs.declared.Search.{Search}
-use Rattle.values.specs.declared.Search.TheVariants.{At, Nothing}
 use Rattle.values.specs.declared.Status.{Status}
 use Rattle.bus.specs.Physical.{outside, aborts, wanted_aborts}
 use Rattle.cache.specs.Dcache.{find}
 use Rattle.translation.specs.Alignment.{cleared}
 use Rattle.translation.specs.Faults.{fills, buffers, fill_status, other_status, fault_set}
 use Rattle.translation.specs.declared.Place.{Place}
-use Rattle.translation.specs.declared.Checked.{Checked}
-use Rattle.translation.specs.declared.Checked.TheVariants.{Passed, Denied}
 use Rattle.machine.specs.Machine.{Machine, physical_of, Stepped, stepped_from, answers_zero}
 use Rattle.reach.specs.Reach.{decision, committed, faulted}
 use Rattle.loads.specs.Loads.{load_hit, after_fill, load_fill, load_uncached, load_miss, load_found, load}
@@ -23,6 +20,7 @@ use Rattle.swaps.specs.Swaps.{swap_hit, swap_direct, swap_miss, swap_found, swap
 use Rattle.access.specs.Access.{passed, access_at, access}
 use Rattle.i_bit.specs.BitI.{machine_without_i}
 use Rattle.i_bit.proofs.Tests.{fills_without, buffers_without, decision_without}
+use Rattle.values.specs.declared.Cause.{Cause}
 
 -- what a call leaves, without I in the machine
 abbrev pub stepped_without_i : Stepped → Stepped
@@ -55,10 +53,10 @@ module _ (m : Machine) (a : Access) where
         (chosen Without (fills m.cp15.registers p) _ _ _ _ fill_without
         (chosen Without (aborts (physical_of m) p.address) _ _ _ _ (fault_without m a (other_status p) p.domain) refl))
 
-    load_found_without : (x : Search) → Without (load_found (machine_without_i m) a p x) (load_found m a p x)
+    load_found_without : (x : Option ℕ) → Without (load_found (machine_without_i m) a p x) (load_found m a p x)
     unfolding load_hit
-    load_found_without (At i) = refl
-    load_found_without Nothing = load_miss_without
+    load_found_without (Some i) = refl
+    load_found_without None = load_miss_without
 
     store_miss_without : (v : ℕ) → Without (store_miss (machine_without_i m) a v p) (store_miss m a v p)
     unfolding store_miss store_buffered store_direct
@@ -68,19 +66,19 @@ module _ (m : Machine) (a : Access) where
         (ap answers_zero (chosen (λ (x y : Machine). x ≡ machine_without_i y) (outside (physical_of m) p.address) _ _ _ _ refl refl))
         (chosen Without (aborts (physical_of m) p.address) _ _ _ _ (fault_without m a (other_status p) p.domain) refl))
 
-    store_found_without : (v : ℕ) (x : Search) → Without (store_found (machine_without_i m) a v p x) (store_found m a v p x)
+    store_found_without : (v : ℕ) (x : Option ℕ) → Without (store_found (machine_without_i m) a v p x) (store_found m a v p x)
     unfolding store_hit
-    store_found_without v (At i) = refl
-    store_found_without v Nothing = store_miss_without v
+    store_found_without v (Some i) = refl
+    store_found_without v None = store_miss_without v
 
     swap_miss_without : (v : ℕ) → Without (swap_miss (machine_without_i m) a v p) (swap_miss m a v p)
     unfolding swap_miss swap_direct store_direct
     swap_miss_without v = chosen Without (aborts (physical_of m) p.address) _ _ _ _ (fault_without m a (other_status p) p.domain) refl
 
-    swap_found_without : (v : ℕ) (x : Search) → Without (swap_found (machine_without_i m) a v p x) (swap_found m a v p x)
+    swap_found_without : (v : ℕ) (x : Option ℕ) → Without (swap_found (machine_without_i m) a v p x) (swap_found m a v p x)
     unfolding swap_hit load_hit store_hit
-    swap_found_without v (At i) = refl
-    swap_found_without v Nothing = swap_miss_without v
+    swap_found_without v (Some i) = refl
+    swap_found_without v None = swap_miss_without v
 
     passed_without : (k : Kind) → Without (passed (machine_without_i m) a p k) (passed m a p k)
     unfolding load store swap
@@ -89,10 +87,10 @@ module _ (m : Machine) (a : Access) where
     passed_without (Store v) = store_found_without v (find m.side.cache.lines (cleared a))
     passed_without (Swap v) = swap_found_without v (find m.side.cache.lines (cleared a))
 
-  at_without : (c : Checked) → Without (access_at (machine_without_i m) a c) (access_at m a c)
+  at_without : (c : Result Place Cause) → Without (access_at (machine_without_i m) a c) (access_at m a c)
   unfolding access_at
-  at_without (Denied s d) = fault_without m a s d
-  at_without (Passed p) = passed_without p a.kind
+  at_without (Err why) = fault_without m a why.status why.domain
+  at_without (Ok p) = passed_without p a.kind
 
 pub access_without : (m : Machine) (a : Access) → Without (access (machine_without_i m) a) (access m a)
 unfolding access committed

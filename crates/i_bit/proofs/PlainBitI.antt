@@ -1,4 +1,5 @@
 -- "I has no effect here.", of the plain machine, proved.
+use Rattle.std.specs.Prelude.{Result, Ok, Err}
 use Prim.Native.Nat.{ℕ}
 use mathlib.Core.List.{List, [], ◌∷◌}
 use mathlib.Core.Path.{◌≡◌, refl, sym, ◌∙◌, ap, ap₂}
@@ -22,8 +23,6 @@ use Rattle.translation.specs.Faults.{buffers, other_status, fault_set}
 use Rattle.translation.specs.declared.Place.{Place}
 use Rattle.translation.specs.declared.Translation.{Translation}
 use Rattle.translation.specs.declared.Decision.{Decision}
-use Rattle.translation.specs.declared.Checked.{Checked}
-use Rattle.translation.specs.declared.Checked.TheVariants.{Passed, Denied}
 use Rattle.registers.specs.Registers.{written_of}
 use Rattle.trace.specs.Fold.{answers_of, final_of}
 use Rattle.soundness_laws.proofs.RegistersKept.{kept_twice}
@@ -37,6 +36,7 @@ use Rattle.i_bit.proofs.ControlBits.{without_twice, bit_without, listed_without,
 use Rattle.i_bit.proofs.Tests.{walked_without, decided_without, fills_without, buffers_without}
 use Rattle.i_bit.proofs.Accesses.{chosen}
 use Rattle.i_bit.proofs.Cp15.{written_without, read_of_without}
+use Rattle.values.specs.declared.Cause.{Cause}
 
 -- ---- an access
 
@@ -81,16 +81,16 @@ module _ (p : Plain) (a : Access) where
     passed_without (Store v) = store_without v
     passed_without (Swap v) = swap_without v
 
-  at_without : (c : Checked) → Without p (plain_at (plain_without_i p) a c) (plain_at p a c)
+  at_without : (c : Result Place Cause) → Without p (plain_at (plain_without_i p) a c) (plain_at p a c)
   unfolding plain_at
-  at_without (Denied s d) = fault_without s d
-  at_without (Passed l) = passed_without l a.kind
+  at_without (Err why) = fault_without why.status why.domain
+  at_without (Ok l) = passed_without l a.kind
 
   reach_without : plain_reach (plain_without_i p) a ≡ plain_reach p a
   unfolding plain_reach
   reach_without =
       let r = p.registers in
-      ap (λ (t : Translation). (decided (registers_without_i r) a t).checked) (walked_without r (plain_physical p) (cleared a))
+      ap (λ (t : Result Translation Cause). (decided (registers_without_i r) a t).checked) (walked_without r (plain_physical p) (cleared a))
       ∙ ap (λ (d : Decision). d.checked) (decided_without r a (walked_only r (plain_physical p) (cleared a)))
 
   access_without : Without p (plain_access (plain_without_i p) a) (plain_access p a)

@@ -1,4 +1,6 @@
 -- The tests that ask control, on registers and a machine without I: alignment, translation and rights, the state's soundness, the refusals.
+use Rattle.std.specs.Prelude.{Option, Some, None, Result, Ok, Err}
+use Rattle.std.specs.Prelude.{ℕ}
 use mathlib.Core.List.{List}
 use mathlib.Core.Path.{◌≡◌, refl, sym, ◌∙◌}
 use Rattle.values.specs.Control.{mmu, alignment, dcache, write_buffer, system, rom}
@@ -6,8 +8,6 @@ use Rattle.values.specs.declared.VirtualAddress.{VirtualAddress}
 use Rattle.values.specs.declared.Registers.{Registers}
 use Rattle.values.specs.declared.Access.{Access}
 use Rattle.values.specs.declared.Entry.{Entry}
-use Rattle.values.specs.declared.Search.{Search}
-use Rattle.values.specs.declared.Search.TheVariants.{At, Nothing}
 use Rattle.values.specs.declared.Call.{Call}
 use Rattle.tlb.specs.Tlb.{lookup}
 use Rattle.bus.specs.Physical.{Physical}
@@ -16,7 +16,7 @@ use Rattle.translation.specs.Translation.{walked_only, of_lookup, translation, c
 use Rattle.translation.specs.Faults.{fills, buffers}
 use Rattle.translation.specs.declared.Place.{Place}
 use Rattle.translation.specs.declared.Translation.{Translation}
-use Rattle.translation.specs.declared.Translation.TheVariants.{Flat, Held, Walked, Failed}
+use Rattle.translation.specs.declared.Translation.TheVariants.{Flat, Held, Walked}
 use Rattle.machine.specs.Machine.{Machine, physical_of}
 use Rattle.soundness.specs.Soundness.{registers_sound, sound}
 use Rattle.reach.specs.Reach.{decision}
@@ -24,6 +24,7 @@ use Rattle.step.specs.Meets.{refusal}
 use Rattle.step.proofs.StateRefusals.{refusal_rows}
 use Rattle.i_bit.specs.BitI.{registers_without_i, machine_without_i}
 use Rattle.i_bit.proofs.ControlBits.{bit_without, listed_without, kept_without}
+use Rattle.values.specs.declared.Cause.{Cause}
 
 module _ (r : Registers) where
   -- M, A, C, W, S and R
@@ -52,9 +53,9 @@ module _ (r : Registers) where
   buffers_without p = rw (mmu_without, buffer_without)
 
   module _ (es : List Entry) (memory : Physical) (va : VirtualAddress) where
-    lookup_without : (x : Search) → of_lookup es (registers_without_i r) memory va x ≡ of_lookup es r memory va x
-    lookup_without (At i) = refl
-    lookup_without Nothing = refl
+    lookup_without : (x : Option ℕ) → of_lookup es (registers_without_i r) memory va x ≡ of_lookup es r memory va x
+    lookup_without (Some i) = refl
+    lookup_without None = refl
 
     translation_without : translation es (registers_without_i r) memory va ≡ translation es r memory va
     unfolding translation
@@ -64,14 +65,14 @@ module _ (r : Registers) where
   unfolding walked_only
   walked_without memory va = rw mmu_without
 
-  checked_without : (a : Access) (t : Translation) → checked (registers_without_i r) a t ≡ checked r a t
+  checked_without : (a : Access) (t : Result Translation Cause) → checked (registers_without_i r) a t ≡ checked r a t
   unfolding checked_by
-  checked_without a Flat = refl
-  checked_without a (Held e) = rw (system_without, rom_without)
-  checked_without a (Walked e) = rw (system_without, rom_without)
-  checked_without a (Failed s d) = refl
+  checked_without a (Ok Flat) = refl
+  checked_without a (Ok (Held e)) = rw (system_without, rom_without)
+  checked_without a (Ok (Walked e)) = rw (system_without, rom_without)
+  checked_without a (Err why) = refl
 
-  pub decided_without : (a : Access) (t : Translation) → decided (registers_without_i r) a t ≡ decided r a t
+  pub decided_without : (a : Access) (t : Result Translation Cause) → decided (registers_without_i r) a t ≡ decided r a t
   unfolding decided
   decided_without a t = rw (alignment_without, checked_without a t)
 

@@ -8,63 +8,46 @@ ghost use Rattle.buffer.specs.Buffer as spec;
 ghost use Rattle.buffer.specs.Packing.{slots_of, backing_of};
 ghost use Rattle.buffer.specs.Ranges.{Fits, Left, Stores};
 
-use values::{PhysicalAddress, Search};
-
-// 1 where an entry's word has the block, 0 elsewhere.
-fn same_block(w: u64, block: u32) -> u32
-    ensures { result ≡ 0 → w / 0x100000000 ≡ block → ⊥ }
-{
-    if (w / 0x100000000) as u32 == block {
-        return 1;
-    }
-    0
-}
+use values::PhysicalAddress;
 
 // Whether one of the eight places has the block: if not, no entry has it. All places are compared, so that a compiler can take several at a time.
 fn may_hold(words: &[u64], block: u32) -> bool
     requires { length words.now ≡ 8 }
     ensures { result ≡ false → (i : ℕ) → i < 8 → get_or words.now i 0 / 0x100000000 ≡ block → ⊥ }
 {
-    let mut found: u32 = 0;
-    let mut i: usize = 0;
-    while i < 8 {
-        found = found | same_block(words[i], block);
-        i += 1;
+    let mut found = false;
+    for w in &words[..8] {
+        found |= (*w / 0x100000000) as u32 == block;
     }
-    found != 0
-}
-
-// The newest of the first `used` entries that has the block, searched from the newest down.
-fn search_down(words: &[u64], used: usize, block: u32) -> Search
-    requires { (length words.now ≡ 8) × (used ≤ 8) }
-    ensures { (bytes : List (List ℕ)) → length bytes ≡ 8 → result ≡ spec.newest_of (slots_of words.now bytes) block used }
-{
-    let mut n = used;
-    let found = loop {
-        if n == 0 {
-            break Search::Nothing;
-        }
-        if words[n - 1] / 0x100000000 == block as u64 {
-            break Search::At(n - 1);
-        }
-        n -= 1;
-    };
     found
 }
 
+// The newest of the first `used` entries that has the block, searched from the newest down.
+fn search_down(words: &[u64], used: usize, block: u32) -> Option<usize>
+    requires { (length words.now ≡ 8) × (used ≤ 8) }
+    ensures { (bytes : List (List ℕ)) → length bytes ≡ 8 → result ≡ spec.newest_of (slots_of words.now bytes) block used }
+{
+    for n in (0..used).rev() {
+        if words[n] / 0x100000000 == block as u64 {
+            return Some(n);
+        }
+    }
+    None
+}
+
 // The newest of the first `used` entries that has the block: the last, none if no place has it, or one that is searched for.
-fn newest(words: &[u64], used: usize, block: u32) -> Search
+fn newest(words: &[u64], used: usize, block: u32) -> Option<usize>
     requires { (length words.now ≡ 8) × (used ≤ 8) }
     ensures { (bytes : List (List ℕ)) → length bytes ≡ 8 → result ≡ spec.newest_of (slots_of words.now bytes) block used }
 {
     if used == 0 {
-        return Search::Nothing;
+        return None;
     }
     if words[used - 1] / 0x100000000 == block as u64 {
-        return Search::At(used - 1);
+        return Some(used - 1);
     }
     if !may_hold(words, block) {
-        return Search::Nothing;
+        return None;
     }
     search_down(words, used, block)
 }
@@ -79,6 +62,7 @@ fn with_store(entry: [u8; 16], offset: usize, width: u32, value: u32) -> [u8; 16
     e
 }
 
+// document 01 names the form: eight arrays of sixteen bytes, taken and given by value
 // The bytes of the entries, with a store's bytes in entry i.
 fn merge(bytes: [[u8; 16]; 8], i: usize, offset: usize, width: u32, value: u32) -> [[u8; 16]; 8]
     requires { (i < 8) × (is_width width ≡ true) × (offset + width ≤ 16) }
@@ -95,13 +79,7 @@ fn mask_of(width: u32, offset: u32) -> u64
     requires { (is_width width ≡ true) × (offset + width ≤ 16) }
     ensures { (result ≡ spec.mask_of width offset) × (result < 0x10000) }
 {
-    if width == 4 {
-        return 15 << offset;
-    }
-    if width == 2 {
-        return 3 << offset;
-    }
-    1 << offset
+    ((1 << width) - 1) << offset
 }
 
 // A store's mask and bytes go into entry i.
@@ -118,7 +96,7 @@ fn join(
     ensures { (words.new ≡ set words.old i (bit_or (get_or words.old i 0) mask))
         × (bytes.new ≡ set bytes.old i (stored width (get_or bytes.old i []) offset value)) }
 {
-    words[i] = words[i] | mask;
+    words[i] |= mask;
     let b = *bytes;
     *bytes = merge(b, i, offset, width, value);
 }
@@ -143,11 +121,11 @@ pub fn store(
     let mask = mask_of(width, offset);
     let found = newest(words, used, block);
     match found {
-        Search::At(i) => {
+        Some(i) => {
             join(words, bytes, i, mask, offset as usize, width, value);
             used
         },
-        Search::Nothing => {
+        None => {
             let fresh = with_store([0u8; 16], offset as usize, width, value);
             buffer::push(
                 memory,

@@ -13,14 +13,7 @@ use values::Count;
 pub fn pointers_sound(pointers: &[u32]) -> bool
     ensures { result ≡ all spec.pointer_sound pointers.now }
 {
-    let mut i: usize = 0;
-    while i < pointers.len() {
-        if pointers[i] > 31 {
-            return false;
-        }
-        i += 1;
-    }
-    true
+    pointers.iter().all(|&p| p <= 31)
 }
 
 // With this number added, the low 32 bits of a valid line's word stay below 2^32 just where the line is inside a memory of n bytes.
@@ -28,30 +21,26 @@ fn spare_of(n: usize) -> u64
     ensures { (n / 32 < 0x20000000 → result + n / 32 * 8 ≡ 0xFFFFFFFF) × (0x20000000 ≤ n / 32 → result ≡ 0) }
 {
     if n / 32 < 0x20000000 {
-        return 0xFFFFFFFF - n as u64 / 32 * 8;
+        0xFFFFFFFF - n as u64 / 32 * 8
+    } else {
+        0
     }
-    0
 }
 
 // The word of an invalid line; 0 for a valid one.
 fn even_part(w: u64) -> u64
     ensures { (w % 2 ≡ 0 → result ≡ w) × (w % 2 ≡ 1 → result ≡ 0) }
 {
-    if w % 2 == 0 {
-        return w;
-    }
-    0
+    if w % 2 == 0 { w } else { 0 }
 }
 
 // Whether every line is valid or empty.
 fn empties_sound(lines: &[u64]) -> bool
     ensures { result ≡ all (λ (w : ℕ). (line_of w).valid || spec.line_empty (line_of w)) lines.now }
 {
-    let mut i: usize = 0;
     let mut stray: u64 = 0;
-    while i < lines.len() {
-        stray = stray | even_part(lines[i]);
-        i += 1;
+    for &w in lines {
+        stray |= even_part(w);
     }
     stray == 0
 }
@@ -61,27 +50,15 @@ pub fn lines_sound(lines: &[u64], n: usize) -> bool
     ensures { result ≡ all (spec.line_sound n) (lines_of lines.now) }
 {
     let spare = spare_of(n);
-    let mut i: usize = 0;
     let mut tags: u64 = 0;
     let mut ends: u64 = 0;
     let mut valid: u64 = 1;
-    while i < lines.len() {
-        let w = lines[i];
-        tags = tags | w;
-        ends = ends | (w % 0x100000000 + spare);
-        valid = valid & w;
-        i += 1;
+    for &word in lines {
+        tags |= word;
+        ends |= word % 0x100000000 + spare;
+        valid &= word;
     }
-    if tags >= 0x80000000000000 {
-        return false;
-    }
-    if ends >= 0x100000000 {
-        return false;
-    }
-    if valid == 1 {
-        return true;
-    }
-    empties_sound(lines)
+    tags < 0x80000000000000 && ends < 0x100000000 && (valid == 1 || empties_sound(lines))
 }
 
 // How many halves of all lines are dirty. The dirty bits are added where they lie in a word, and the sums brought down at the end.
@@ -89,14 +66,11 @@ pub fn dirty_halves(lines: &[u64]) -> Count
     requires { length lines.now ≡ 512 }
     ensures { (result ≡ sum dcache.dirty_halves (lines_of lines.now)) × (result ≤ 1024) }
 {
-    let mut i: usize = 0;
     let mut low: u64 = 0;
     let mut high: u64 = 0;
-    while i < 512 {
-        let line = lines[i];
-        low += line / 2 % 2 * 2;
-        high += line / 4 % 2 * 4;
-        i += 1;
+    for &w in lines {
+        low += w / 2 % 2 * 2;
+        high += w / 4 % 2 * 4;
     }
     (low / 2 + high / 4) as Count
 }

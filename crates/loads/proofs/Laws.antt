@@ -1,4 +1,5 @@
 -- What the code of a load leaves is what the definition says, by the facts that its callees give.
+use Rattle.std.specs.Prelude.{Some, None}
 use Prim.Native.Nat.{ℕ, ◌+◌, ◌*◌, ◌/◌, ◌%◌, ◌<◌, ◌≤◌}
 use native.Mathlib.Omega.{arith}
 use mathlib.Core.Bool.{Bool, true, false, cond}
@@ -9,7 +10,6 @@ use Rattle.values.specs.Counts.{count_limit, hit, filled, sent}
 use Rattle.values.specs.declared.Access.{Access}
 use Rattle.values.specs.declared.VirtualAddress.{VirtualAddress}
 use Rattle.values.specs.declared.Answer.{Answer}
-use Rattle.values.specs.declared.Search.TheVariants.{At, Nothing}
 use Rattle.words.specs.Words.{value_at}
 use Rattle.words.specs.Signed.{load_answer}
 use Rattle.bus.specs.Physical.{physical, aborts, wanted_aborts, line_aborts}
@@ -127,10 +127,10 @@ module _ (m : Machine) (a : Access) (p : Place) where
     unfolding load_miss
     miss_aborts h = rw (f, h)
 
-  pub found_hit : (va : VirtualAddress) (i : ℕ) → va ≡ cleared a → find m.side.cache.lines va ≡ At i → load m a p ≡ load_hit m a i
+  pub found_hit : (va : VirtualAddress) (i : ℕ) → va ≡ cleared a → find m.side.cache.lines va ≡ Some i → load m a p ≡ load_hit m a i
   unfolding load
   found_hit va i f e = rw (← f, e)
 
-  pub found_none : (va : VirtualAddress) → va ≡ cleared a → find m.side.cache.lines va ≡ Nothing → load m a p ≡ load_miss m a p
+  pub found_none : (va : VirtualAddress) → va ≡ cleared a → find m.side.cache.lines va ≡ None → load m a p ≡ load_miss m a p
   unfolding load
   found_none va f e = rw (← f, e)

@@ -1,10 +1,8 @@
 -- "An access, step by step": a load whose alignment, translation and rights pass.
-use Rattle.std.specs.Prelude.{ℕ, cond}
+use Rattle.std.specs.Prelude.{ℕ, cond, Option, Some, None}
 use Rattle.values.specs.Counts.{hit, sent}
 use Rattle.values.specs.Counts as counts
 use Rattle.values.specs.declared.Access.{Access}
-use Rattle.values.specs.declared.Search.{Search}
-use Rattle.values.specs.declared.Search.TheVariants.{At, Nothing}
 use Rattle.words.specs.Words.{value_at}
 use Rattle.words.specs.Signed.{load_answer}
 use Rattle.bus.specs.Physical.{aborts, wanted_aborts, line_aborts}
@@ -47,9 +45,9 @@ load_miss m a p =
     cond (fills m.cp15.registers p) (load_fill m a p)
     (cond (aborts (physical_of m) p.address) (faulted m (other_status p) p.domain a.address) (load_uncached m a p))
 
-abbrev pub load_found : Machine → Access → Place → Search → Stepped
-load_found m a p (At i) = load_hit m a i
-load_found m a p Nothing = load_miss m a p
+abbrev pub load_found : Machine → Access → Place → Option ℕ → Stepped
+load_found m a p (Some i) = load_hit m a i
+load_found m a p None = load_miss m a p
 
 -- "Kinds: load, signed load". The Dcache "is searched always, even when disabled."
 unfoldable pub load : Machine → Access → Place → Stepped

@@ -7,16 +7,16 @@ ghost use Rattle.words.specs.Words.{is_width};
 ghost use Rattle.bus.specs.Physical.{physical, aborts, wanted_aborts, line_aborts};
 ghost use Rattle.translation.specs.Alignment as aligned;
 ghost use Rattle.translation.specs.Ranges.{PlaceRanged};
-ghost use Rattle.machine.specs.Lists.{Lists, lists, machine_of, stepped_of, Leaves, LeavesBelow};
+ghost use Rattle.machine.specs.Lists.{Lists, machine_of, stepped_of, Leaves, lists_of, Kept};
 ghost use Rattle.machine.specs.Machine.{Machine};
 ghost use Rattle.reach.specs.Code.{MissReady};
 ghost use Rattle.machine.specs.Ready.{SideReady};
 ghost use Rattle.loads.specs.Loads as spec;
 ghost use Rattle.loads.specs.Code.{filled_by};
 
-use machine::{Outcome, Scalars};
+use machine::{Lent, Outcome, Scalars};
 use translation::Place;
-use values::{Access, Count, PhysicalAddress, Search};
+use values::{Access, Count, PhysicalAddress};
 
 // A load from line i.
 pub fn load_hit(store: &[u8], s: Scalars, a: Access, i: usize) -> Outcome
@@ -57,41 +57,37 @@ fn wanted(memory: &[u8], bad: &[u8], pa: PhysicalAddress, aborts: bool) -> bool
 }
 
 // A load that fills a line: it is served by the word read, or faults.
-fn load_fill(
-    memory: &mut [u8],
-    bad: &[u8],
-    words: &mut [u64],
-    bytes: &mut [[u8; 16]; 8],
-    lines: &mut [u64],
-    pointers: &mut [u32],
-    store: &mut [u8],
-    s: Scalars,
-    a: Access,
-    p: Place,
-) -> Outcome
-    requires { SideReady (lists memory.old bad.now words.old bytes.old lines.old pointers.old store.old) s
-        × (is_width a.width ≡ true) × PlaceRanged (aligned.cleared a) p }
-    ensures { Leaves
-        (lists memory.old bad.now words.old bytes.old lines.old pointers.old
-        store.old) s
-        (lists memory.new bad.now words.new bytes.new lines.new pointers.new
-        store.new) result
-        (λ (m : Machine). spec.load_fill m a p) }
+fn load_fill(side: &mut Lent, s: Scalars, a: Access, p: Place) -> Outcome
+    requires { SideReady (lists_of side.old) s × (is_width a.width ≡ true) × PlaceRanged (aligned.cleared a) p }
+    ensures { Leaves (lists_of side.old) s (lists_of side.new) result (λ (m : Machine). spec.load_fill m a p) × Kept side.old side.new }
 {
     let va = translation::cleared(a);
     let pa = p.address;
     let k = a.kind;
     let address = a.address;
-    let aborts = bus::line_aborts(memory, bad, pa);
-    let faults = wanted(memory, bad, pa, aborts);
+    let bad = side.bad;
+    let before = &mut *side.memory;
+    let aborts = bus::line_aborts(before, bad, pa);
+    let faults = wanted(before, bad, pa, aborts);
     let sent = fills::fill(
-        memory, bad, words, bytes, s.used, lines, pointers, store, va, pa, aborts,
+        side.memory,
+        bad,
+        side.words,
+        side.bytes,
+        s.used,
+        side.lines,
+        side.pointers,
+        side.store,
+        va,
+        pa,
+        aborts,
     );
     let after = after_fill(s, sent.used, sent.halves, aborts);
     if faults {
         return reach::faulted(after, translation::fill_status(p), p.domain, address);
     }
-    let v = words::load(memory, pa.0 as usize, a.width);
+    let left = &mut *side.memory;
+    let v = words::load(left, pa.0 as usize, a.width);
     Outcome {
         scalars: after,
         answer: translation::load_answer(k, a.width, v),
@@ -99,24 +95,24 @@ fn load_fill(
 }
 
 // A load from memory, once the buffer holds no byte of it.
-fn load_uncached(
-    memory: &mut [u8],
-    bad: &[u8],
-    words: &mut [u64],
-    bytes: &mut [[u8; 16]; 8],
-    s: Scalars,
-    a: Access,
-    p: Place,
-) -> Outcome
-    requires { MissReady memory.old words.old bytes.old s.used a p × (aborts (physical memory.old bad.now) p.address ≡ false) }
-    ensures { LeavesBelow memory.old bad.now words.old bytes.old s memory.new words.new
-        bytes.new result
-        (λ (m : Machine). spec.load_uncached m a p) }
+fn load_uncached(side: &mut Lent, s: Scalars, a: Access, p: Place) -> Outcome
+    requires { MissReady side.old.memory.now side.old.words.now side.old.bytes.now s.used a p
+        × (aborts (physical side.old.memory.now side.old.bad.now) p.address ≡ false) }
+    ensures { Leaves (lists_of side.old) s (lists_of side.new) result (λ (m : Machine). spec.load_uncached m a p) × Kept side.old side.new }
 {
     let pa = p.address;
     let k = a.kind;
-    let used = masks::ready_access(memory, bad, words, bytes, s.used, pa, a.width);
-    let v = words::load(memory, pa.0 as usize, a.width);
+    let used = masks::ready_access(
+        side.memory,
+        side.bad,
+        side.words,
+        side.bytes,
+        s.used,
+        pa,
+        a.width,
+    );
+    let left = &mut *side.memory;
+    let v = words::load(left, pa.0 as usize, a.width);
     Outcome {
         scalars: machine::with_used(s, used),
         answer: translation::load_answer(k, a.width, v),
@@ -124,60 +120,36 @@ fn load_uncached(
 }
 
 // A load that misses.
-fn load_miss(
-    memory: &mut [u8],
-    bad: &[u8],
-    words: &mut [u64],
-    bytes: &mut [[u8; 16]; 8],
-    lines: &mut [u64],
-    pointers: &mut [u32],
-    store: &mut [u8],
-    s: Scalars,
-    a: Access,
-    p: Place,
-) -> Outcome
-    requires { SideReady (lists memory.old bad.now words.old bytes.old lines.old pointers.old store.old) s
-        × (is_width a.width ≡ true) × PlaceRanged (aligned.cleared a) p }
-    ensures { Leaves (lists memory.old bad.now words.old bytes.old lines.old pointers.old
-        store.old) s
-        (lists memory.new bad.now words.new bytes.new lines.new pointers.new store.new) result
-        (λ (m : Machine). spec.load_miss m a p) }
+fn load_miss(side: &mut Lent, s: Scalars, a: Access, p: Place) -> Outcome
+    requires { SideReady (lists_of side.old) s × (is_width a.width ≡ true) × PlaceRanged (aligned.cleared a) p }
+    ensures { Leaves (lists_of side.old) s (lists_of side.new) result (λ (m : Machine). spec.load_miss m a p) × Kept side.old side.new }
 {
     let r = s.cp15.registers;
     if translation::fills(r, p) {
-        return load_fill(memory, bad, words, bytes, lines, pointers, store, s, a, p);
+        return load_fill(side, s, a, p);
     }
+    let bad = side.bad;
+    let memory = &mut *side.memory;
     if bus::aborts(memory, bad, p.address) {
         let address = a.address;
         return reach::faulted(s, translation::other_status(p), p.domain, address);
     }
-    load_uncached(memory, bad, words, bytes, s, a, p)
+    load_uncached(side, s, a, p)
 }
 
 // A load: the Dcache is searched, even when disabled.
-pub fn load(
-    memory: &mut [u8],
-    bad: &[u8],
-    words: &mut [u64],
-    bytes: &mut [[u8; 16]; 8],
-    lines: &mut [u64],
-    pointers: &mut [u32],
-    store: &mut [u8],
-    s: Scalars,
-    a: Access,
-    p: Place,
-) -> Outcome
-    requires { SideReady (lists memory.old bad.now words.old bytes.old lines.old pointers.old store.old) s
-        × (is_width a.width ≡ true) × PlaceRanged (aligned.cleared a) p }
-    ensures { Leaves (lists memory.old bad.now words.old bytes.old lines.old pointers.old
-        store.old) s
-        (lists memory.new bad.now words.new bytes.new lines.new pointers.new store.new) result
-        (λ (m : Machine). spec.load m a p) }
+pub fn load(side: &mut Lent, s: Scalars, a: Access, p: Place) -> Outcome
+    requires { SideReady (lists_of side.old) s × (is_width a.width ≡ true) × PlaceRanged (aligned.cleared a) p }
+    ensures { Leaves (lists_of side.old) s (lists_of side.new) result (λ (m : Machine). spec.load m a p) × Kept side.old side.new }
 {
     let va = translation::cleared(a);
+    let lines = &mut *side.lines;
     let found = cache::find(lines, va);
     match found {
-        Search::At(i) => load_hit(store, s, a, i),
-        Search::Nothing => load_miss(memory, bad, words, bytes, lines, pointers, store, s, a, p),
+        Some(i) => {
+            let store = &mut *side.store;
+            load_hit(store, s, a, i)
+        },
+        None => load_miss(side, s, a, p),
     }
 }

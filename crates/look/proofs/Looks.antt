@@ -1,4 +1,5 @@
 -- The cases of a look, and that what it shows lies inside.
+use Rattle.std.specs.Prelude.{Option, Some, None, Result, Ok, Err}
 use Prim.Native.Nat.{ℕ, ◌+◌, ◌*◌, ◌/◌, ◌%◌, ◌≤◌}
 use native.Mathlib.Omega.{arith}
 use mathlib.Core.Path.{◌≡◌, refl, sym, ◌∙◌}
@@ -9,12 +10,8 @@ use Rattle.values.specs.Addresses.{flat}
 use Rattle.values.specs.Control.{mmu}
 use Rattle.values.specs.declared.VirtualAddress.{VirtualAddress}
 use Rattle.values.specs.declared.PhysicalAddress.{PhysicalAddress}
-use Rattle.values.specs.declared.Search.{Search}
-use Rattle.values.specs.declared.Search.TheVariants.{At, Nothing}
 use Rattle.values.proofs.Cases.{case}
 use Rattle.walk.specs.Walk.{walk}
-use Rattle.walk.specs.declared.Mapping.{Mapping}
-use Rattle.walk.specs.declared.Mapping.TheVariants.{Found, Failed}
 use Rattle.tlb.specs.Tlb.{translated}
 use Rattle.cache.specs.Dcache.{find}
 use Rattle.cache.proofs.Finds.{found}
@@ -26,6 +23,8 @@ use Rattle.look.specs.declared.Part.TheVariants.{Empty}
 use Rattle.look.specs.Look.{memory_line, walked_line, found_line, shown, part_bytes, look, Inside}
 use Rattle.step.proofs.StateRefusals.{Accepts, accepts}
 use Rattle.machine.specs.Machine.{Machine, memory_of, store_of, physical_of}
+use Rattle.values.specs.declared.Cause.{Cause}
+use Rattle.values.specs.declared.Entry.{Entry}
 
 module _ (m : Machine) (va : VirtualAddress) (n : ℕ) (e : n ≡ state_refusal m) where
   pub shown_refused : (n ≡ 0 → ⊥) → Empty ≡ shown m va
@@ -33,7 +32,7 @@ module _ (m : Machine) (va : VirtualAddress) (n : ℕ) (e : n ≡ state_refusal 
   shown_refused z = rw (← e, ne_eqb n 0 z)
 
   module _ (z : n ≡ 0) where
-    pub shown_by : (x : Search) → x ≡ find m.side.cache.lines va → shown m va ≡ found_line m va x
+    pub shown_by : (x : Option ℕ) → x ≡ find m.side.cache.lines va → shown m va ≡ found_line m va x
     unfolding shown
     shown_by x f = rw (← e, eq-eqb n 0 z, f)
 
@@ -48,15 +47,15 @@ module _ (long kept : ℕ) where
       (λ t. let l = ltb-true pa.0 n t in let k : pa.0 / 32 * 32 + 32 ≤ long = omega arith in rw t k)
       (λ f. rw f tt)
 
-  walked_inside : (n : ℕ) → n % 32 ≡ 0 → n ≤ long → (va : VirtualAddress) (x : Mapping) → Inside long kept (walked_line n va x)
-  walked_inside n whole h va (Found e) = memory_inside n whole h (translated e va)
-  walked_inside n whole h va (Failed s d) = tt
+  walked_inside : (n : ℕ) → n % 32 ≡ 0 → n ≤ long → (va : VirtualAddress) (x : Result Entry Cause) → Inside long kept (walked_line n va x)
+  walked_inside n whole h va (Ok e) = memory_inside n whole h (translated e va)
+  walked_inside n whole h va (Err why) = tt
 
   module _ (m : Machine) (va : VirtualAddress) where
-    found_inside : Accepts m → length (memory_of m) ≤ long → 16384 ≤ kept → (x : Search) → find m.side.cache.lines va ≡ x →
+    found_inside : Accepts m → length (memory_of m) ≤ long → 16384 ≤ kept → (x : Option ℕ) → find m.side.cache.lines va ≡ x →
         Inside long kept (found_line m va x)
-    found_inside a h k (At i) f = let l = (found m.side.cache.lines va i f).low in omega arith
-    found_inside a h k Nothing f =
+    found_inside a h k (Some i) f = let l = (found m.side.cache.lines va i f).low in omega arith
+    found_inside a h k None f =
         case (mmu m.cp15.registers)
         (λ t. rw t (walked_inside (length (memory_of m)) a.whole h va (walk (physical_of m) m.cp15.registers.base va)))
         (λ t. rw t (memory_inside (length (memory_of m)) a.whole h (flat va)))

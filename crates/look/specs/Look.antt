@@ -1,34 +1,32 @@
 -- "A look, which is no call, shows the 32 bytes of a virtual address's line".
-use Rattle.std.specs.Prelude.{ℕ, ◌+◌, ◌*◌, ◌≤◌, cond, List, [], eqb, ltb, length, take, drop}
+use Rattle.std.specs.Prelude.{ℕ, ◌+◌, ◌*◌, ◌≤◌, cond, List, [], eqb, ltb, length, take, drop, Option, Some, None, Result, Ok, Err}
 use Rattle.values.specs.Addresses.{flat, physical_line}
 use Rattle.values.specs.Control.{mmu}
 use Rattle.values.specs.declared.VirtualAddress.{VirtualAddress}
 use Rattle.values.specs.declared.PhysicalAddress.{PhysicalAddress}
-use Rattle.values.specs.declared.Search.{Search}
-use Rattle.values.specs.declared.Search.TheVariants.{At, Nothing}
 use Rattle.walk.specs.Walk.{walk}
-use Rattle.walk.specs.declared.Mapping.{Mapping}
-use Rattle.walk.specs.declared.Mapping.TheVariants.{Found, Failed}
 use Rattle.tlb.specs.Tlb.{translated}
 use Rattle.cache.specs.Dcache.{find}
 use Rattle.step.specs.Meets.{state_refusal}
 use Rattle.look.specs.declared.Part.{Part}
 use Rattle.look.specs.declared.Part.TheVariants.{OfStore, OfMemory, Empty}
 use Rattle.machine.specs.Machine.{Machine, memory_of, store_of, physical_of}
+use Rattle.values.specs.declared.Cause.{Cause}
+use Rattle.values.specs.declared.Entry.{Entry}
 
 -- a line of memory of n bytes, which is a multiple of 32; under a bounds fault "an empty part"
 abbrev pub memory_line : ℕ → PhysicalAddress → Part
 memory_line n pa = cond (ltb pa.0 n) (OfMemory (physical_line pa)) Empty
 
 -- "otherwise out of memory by a walk past the TLB that changes nothing"; under a walk fault "an empty part"; "rights are not checked"
-abbrev pub walked_line : ℕ → VirtualAddress → Mapping → Part
-walked_line n va (Found e) = memory_line n (translated e va)
-walked_line n va (Failed s d) = Empty
+abbrev pub walked_line : ℕ → VirtualAddress → Result Entry Cause → Part
+walked_line n va (Ok e) = memory_line n (translated e va)
+walked_line n va (Err why) = Empty
 
 -- "out of the cache store if held there"
-abbrev pub found_line : Machine → VirtualAddress → Search → Part
-found_line m va (At i) = OfStore i
-found_line m va Nothing =
+abbrev pub found_line : Machine → VirtualAddress → Option ℕ → Part
+found_line m va (Some i) = OfStore i
+found_line m va None =
     cond (mmu m.cp15.registers) (walked_line (length (memory_of m)) va (walk (physical_of m) m.cp15.registers.base va))
     (memory_line (length (memory_of m)) (flat va))
 

@@ -11,8 +11,7 @@ ghost use Rattle.state.specs.State.{machine_in};
 ghost use Rattle.look.specs.Look as looks;
 
 use state::State;
-use values::{Cp15, PhysicalAddress, Registers, Search, VirtualAddress};
-use walk::Mapping;
+use values::{Cause, Cp15, Entry, PhysicalAddress, Registers, VirtualAddress};
 
 // What a look shows: line i of the cache store, line i of memory, or an empty part.
 #[derive(Clone, Copy)]
@@ -33,13 +32,13 @@ fn memory_line(n: usize, pa: PhysicalAddress) -> Part
 }
 
 // The line that a mapping gives, or an empty part.
-fn mapped_line(n: usize, va: VirtualAddress, m: Mapping) -> Part
+fn mapped_line(n: usize, va: VirtualAddress, m: Result<Entry, Cause>) -> Part
     requires { Ranged m }
     ensures { result ≡ looks.walked_line n va m }
 {
     match m {
-        Mapping::Found(e) => memory_line(n, tlb::translated(e, va)),
-        Mapping::Failed(s, d) => Part::Empty,
+        Ok(e) => memory_line(n, tlb::translated(e, va)),
+        Err(_) => Part::Empty,
     }
 }
 
@@ -67,15 +66,15 @@ pub fn shown(
 ) -> Part
     ensures { result ≡ looks.shown (machine_in memory.now bad.now store.now state cp15) va }
 {
-    if state::state_refusal(state, cp15, memory, bad, store) != 0 {
+    if state::state_refusal(state, cp15, memory, bad, store).is_err() {
         return Part::Empty;
     }
     let lines = state.lines;
     let registers = cp15.registers;
     let found = cache::find(&lines, va);
     match found {
-        Search::At(i) => Part::OfStore(i),
-        Search::Nothing => uncached_line(memory, bad, registers, va),
+        Some(i) => Part::OfStore(i),
+        None => uncached_line(memory, bad, registers, va),
     }
 }
 

@@ -20,6 +20,20 @@ pub struct Scalars {
     pub used: usize,
 }
 
+// References to the lent lists of the data side: memory and its map, the buffer's words and bytes, the Dcache's lines, pointers and store. Slices, and the
+// bytes as the array that document 01 names: the length of a slice is known after a call that takes it. The crates below this one are lent slices: with
+// the struct there, fills take 2.6 percent more instructions.
+#[derive(Drop)]
+pub struct Lent<'a, 'b> {
+    pub memory: &'a mut [u8],
+    pub bad: &'b [u8],
+    pub words: &'a mut [u64],
+    pub bytes: &'a mut [[u8; 16]; 8],
+    pub lines: &'a mut [u64],
+    pub pointers: &'a mut [u32],
+    pub store: &'a mut [u8],
+}
+
 // The scalars and an answer.
 #[derive(Clone, Copy)]
 pub struct Outcome {
@@ -55,9 +69,8 @@ pub fn counted(s: Scalars) -> Scalars
     requires { s.counts.calls < count_limit }
     ensures { result ≡ spec.with_counts s (counts.counted s.counts) }
 {
-    let n = s.counts.calls + 1;
     let mut c = s.counts;
-    c.calls = n;
+    c.calls += 1;
     with_counts(s, c)
 }
 
@@ -66,9 +79,8 @@ pub fn missed(s: Scalars) -> Scalars
     requires { s.counts.misses < count_limit }
     ensures { result ≡ spec.with_counts s (counts.missed s.counts) }
 {
-    let n = s.counts.misses + 1;
     let mut c = s.counts;
-    c.misses = n;
+    c.misses += 1;
     with_counts(s, c)
 }
 
@@ -77,9 +89,8 @@ pub fn hit(s: Scalars) -> Scalars
     requires { s.counts.hits < count_limit }
     ensures { result ≡ spec.with_counts s (counts.hit s.counts) }
 {
-    let n = s.counts.hits + 1;
     let mut c = s.counts;
-    c.hits = n;
+    c.hits += 1;
     with_counts(s, c)
 }
 
@@ -88,9 +99,8 @@ pub fn filled(s: Scalars) -> Scalars
     requires { s.counts.fills < count_limit }
     ensures { result ≡ spec.with_counts s (counts.filled s.counts) }
 {
-    let n = s.counts.fills + 1;
     let mut c = s.counts;
-    c.fills = n;
+    c.fills += 1;
     with_counts(s, c)
 }
 
@@ -99,9 +109,8 @@ pub fn sent(s: Scalars, halves: Count) -> Scalars
     requires { s.counts.halves + halves ≤ count_limit }
     ensures { result ≡ spec.with_counts s (counts.sent s.counts halves) }
 {
-    let n = s.counts.halves + halves;
     let mut c = s.counts;
-    c.halves = n;
+    c.halves += halves;
     with_counts(s, c)
 }
 
@@ -138,11 +147,9 @@ fn drain_entries(
     ensures { Left memory.new bad.now words.new bytes.new 0
         (drained (backing_of memory.old bad.now words.old bytes.old used)) }
 {
-    if used == 0 {
-        return;
+    if used != 0 {
+        *bytes = buffer::drain(memory, bad, words, *bytes, used);
     }
-    let b = *bytes;
-    *bytes = buffer::drain(memory, bad, words, b, used);
 }
 
 // The buffer is drained.

@@ -1,19 +1,16 @@
 -- Numbers read as things, one behind another.
-use Prim.Native.Nat.{ℕ, zero, suc, ◌+◌, ◌*◌, ◌<◌, ◌≤◌}
+use Prim.Native.Nat.{ℕ, zero, suc, ◌+◌, ◌*◌, ◌<◌}
 use native.Mathlib.Omega.{arith}
-use native.Mathlib.Nat.{add-zero, add_comm, zero-mul, suc-mul}
-use native.Mathlib.Numerals.{add-one}
-use mathlib.Core.Bool.{true, false}
+use native.Mathlib.Nat.{add_comm, zero-mul, suc-mul}
+use mathlib.Core.Bool.{Bool, true, false}
 use mathlib.Core.Path.{◌≡◌, refl, sym, ◌∙◌, ap, subst}
 use mathlib.Core.List.{List}
-use lib.Dec.{eqb}
-use lib.ListN.{length, get_or, take, drop, set}
+use lib.ListN.{length, get_or, take, drop}
 use lib.Seq.{drop-drop}
-use borrow.Author.Tests.{eqb-true, eqb-false}
-use Rattle.values.proofs.Cases.{case, clash, and_left, and_right, and_both}
-use Rattle.values.proofs.Toward.{Toward, toward_start, toward_step, toward_all}
+use Rattle.std.proofs.lemmas.List.{ext_get_or}
+use Rattle.values.proofs.Cases.{clash, and_left, and_right, and_both}
 use Rattle.form.specs.Form.{Form, each_fits, each_thing}
-use Rattle.numbers.specs.Code.{part, Packs, ThingsRead}
+use Rattle.numbers.specs.Code.{part, Packs, RowsSame, ThingsRead}
 
 module _ {A : Type 0} (f : Form A) where
   abbrev w : ℕ
@@ -51,7 +48,7 @@ module _ {A : Type 0} (f : Form A) where
       and_both (f.fits (take w ns)) (each_fits f n (drop w ns)) (subst (λ (k : ℕ). f.fits (take w (drop k ns)) ≡ true) (zero-mul w) (g 0 (omega arith)))
       (fits_all n (drop w ns) (λ i h. subst (λ (l : List ℕ). f.fits (take w l) ≡ true) (next i ns) (g (suc i) (omega arith))))
 
--- ---- the loop that reads
+-- ---- things read
 
 module _ {A : Type 0} (f : Form A) (width : ℕ) (wide : length f.places ≡ width) (n : ℕ) (ns : List ℕ) (from : ℕ) where
   abbrev all : List ℕ
@@ -61,76 +58,48 @@ module _ {A : Type 0} (f : Form A) (width : ℕ) (wide : length f.places ≡ wid
   abbrev nth : ℕ → List ℕ
   nth i = take (length f.places) (drop (i * length f.places) all)
 
-  -- the things before i are read
-  pub record Reading (old now : List A) (at i : ℕ) : Type 0 where
-    pub low : i ≤ n
-    pub place : at ≡ from + i * width
-    pub toward : Toward (each_thing f n all) old now i
-    pub fit : (j : ℕ) → j < i → f.fits (nth j) ≡ true
+  -- they stand at its place
+  here : (i : ℕ) → part ns (from + i * width) width ≡ nth i
+  here i =
+      ap (λ (l : List ℕ). take width l) (sym (drop-drop (i * width) from ns)) ∙ ap (λ (k : ℕ). take k (drop (i * k) all)) (sym wide)
 
-  pub reading_start : (old : List A) → Reading old old from 0
-  reading_start old =
+  -- things whose numbers stand there are those read
+  pub things_read : (Holds : A → Type 0) (d : A) (xs : List A) → length xs ≡ n
+      → ((i : ℕ) → i < n → part ns (from + i * width) width ≡ f.numbers (get_or xs i d))
+      → ((i : ℕ) → i < n → f.thing (f.numbers (get_or xs i d)) ≡ get_or xs i d) → ((i : ℕ) → i < n → f.fits (f.numbers (get_or xs i d)) ≡ true)
+      → ThingsRead f Holds d n all xs true
+  things_read Holds d xs long same back fit =
       record {
-        low = omega arith;
-        place = sym (add-zero from) ∙ ap (λ (k : ℕ). from + k) (sym (zero-mul width));
-        toward = toward_start (each_thing f n all) old;
-        fit = λ j h. absurd (omega arith);
+        same = λ t. ext_get_or d xs (each_thing f n all) (long ∙ sym (each_long f n all)) (λ i h. let k : i < n = omega arith in
+            sym (back i k) ∙ ap (λ (l : List ℕ). f.thing l) (sym (same i k) ∙ here i) ∙ sym (thing_at f n i all d k));
+        fits = λ t. fits_all f n all (λ i h. ap (λ (l : List ℕ). f.fits l) (sym (here i) ∙ same i h) ∙ fit i h);
+        unfit = λ t. clash {b = true} refl t;
       }
 
-  module _ (old now : List A) (at i : ℕ) (g : Reading old now at i) where
-    -- the numbers at the place are those of thing i
-    here : part ns at width ≡ nth i
-    here =
-        ap (λ (k : ℕ). take width (drop k ns)) g.place ∙ ap (λ (l : List ℕ). take width l) (sym (drop-drop (i * width) from ns))
-        ∙ ap (λ (k : ℕ). take k (drop (i * k) all)) (sym wide)
+  -- the numbers of thing i do not fit, or are of none that its word can stand for
+  pub things_unread : (Holds : A → Type 0) (d : A) (left : List A) (i : ℕ) → i < n
+      → (f.fits (part ns (from + i * width) width) ≡ true → Holds (f.thing (part ns (from + i * width) width)) → ⊥)
+      → ThingsRead f Holds d n all left false
+  things_unread Holds d left i h z =
+      record {
+        same = λ t. clash {b = false} t refl;
+        fits = λ t. clash {b = false} t refl;
+        unfit = λ t fits holds. z (ap (λ (l : List ℕ). f.fits l) (here i) ∙ fits_at f n i all fits h)
+            (subst Holds (thing_at f n i all d h ∙ ap (λ (l : List ℕ). f.thing l) (sym (here i))) (holds i h));
+      }
 
-    pub reading_on : (x d : A) (nums : List ℕ) → i < n → length old ≡ n → part ns at width ≡ nums → nums ≡ f.numbers x
-        → f.thing (f.numbers x) ≡ x → f.fits (f.numbers x) ≡ true → Reading old (set now i x) (at + width) (i + 1)
-    reading_on x d nums h long e q back fits =
-        let are : nth i ≡ f.numbers x = sym here ∙ e ∙ q in
-        let l = each_long f n all in
-        let m = g.toward.long in
-        record {
-          low = omega arith;
-          place = ap (λ (k : ℕ). k + width) g.place ∙ onward (i * width)
-              ∙ ap (λ (k : ℕ). from + k) (sym (suc-mul i width) ∙ ap (λ (k : ℕ). k * width) (sym (add-one i)));
-          toward = toward_step (each_thing f n all) old now i g.toward x d (omega arith) (omega arith)
-              (sym back ∙ ap (λ (l : List ℕ). f.thing l) (sym are) ∙ sym (thing_at f n i all d h));
-          fit = λ j k. fit_upto j k (ap (λ (l : List ℕ). f.fits l) are ∙ fits);
-        }
-      where
-        onward : (k : ℕ) → from + k + width ≡ from + (k + width)
-        onward k = omega arith
-
-        below_of : (j : ℕ) → (j ≡ i → ⊥) → j < i + 1 → j < i
-        below_of j z k = omega (arith, z)
-
-        fit_upto : (j : ℕ) → j < i + 1 → f.fits (nth i) ≡ true → f.fits (nth j) ≡ true
-        fit_upto j k t =
-            case (eqb j i) (λ e. subst (λ (m : ℕ). f.fits (nth m) ≡ true) (sym (eqb-true j i e)) t)
-            (λ e. let z = eqb-false j i e in g.fit j (below_of j z k))
-
-    pub reading_end : (Holds : A → Type 0) (d : A) → n ≤ i → length old ≡ n → ThingsRead f Holds d n all now true
-    reading_end Holds d h long =
-        let low = g.low in
-        let e : i ≡ n = omega arith in
-        record {
-          same = λ t. toward_all (each_thing f n all) old now n (subst (λ (k : ℕ). Toward (each_thing f n all) old now k) e g.toward) long
-              (each_long f n all);
-          fits = λ t. fits_all f n all (λ j k. g.fit j (subst (λ (m : ℕ). j < m) (sym e) k));
-          unfit = λ t. clash {b = true} refl t;
-        }
-
-    -- the numbers of thing i do not fit, or are of none that its word can stand for
-    pub reading_no : (Holds : A → Type 0) (d : A) (left : List A) → i < n
-        → (f.fits (part ns at width) ≡ true → Holds (f.thing (part ns at width)) → ⊥) → ThingsRead f Holds d n all left false
-    reading_no Holds d left h z =
-        record {
-          same = λ t. clash {b = false} t refl;
-          fits = λ t. clash {b = false} t refl;
-          unfit = λ t fits holds. z (ap (λ (l : List ℕ). f.fits l) here ∙ fits_at f n i all fits h)
-              (subst Holds (thing_at f n i all d h ∙ ap (λ (l : List ℕ). f.thing l) (sym here)) (holds i h));
-        }
+  -- things read, by a comparison of their rows with the numbers that stand there
+  pub things_compared : (Holds : A → Type 0) (d : A) (xs : List A) (IsRow : ℕ → List ℕ → Type 0) (r : Bool) → RowsSame ns from width n IsRow r
+      → length xs ≡ n → ((i : ℕ) (row : List ℕ) → i < n → IsRow i row → row ≡ f.numbers (get_or xs i d))
+      → ((i : ℕ) → i < n → f.thing (f.numbers (get_or xs i d)) ≡ get_or xs i d) → ((i : ℕ) → i < n → f.fits (f.numbers (get_or xs i d)) ≡ true)
+      → ((i : ℕ) → i < n → (part ns (from + i * width) width ≡ f.numbers (get_or xs i d) → ⊥) → f.fits (part ns (from + i * width) width) ≡ true
+      → Holds (f.thing (part ns (from + i * width) width)) → ⊥)
+      → ThingsRead f Holds d n all xs r
+  things_compared Holds d xs IsRow true rows long is back fit unread =
+      things_read Holds d xs long (λ i h. is i (part ns (from + i * width) width) h (rows.same refl i h)) back fit
+  things_compared Holds d xs IsRow false rows long is back fit unread =
+      let w = rows.differs refl in
+      things_unread Holds d xs w.0 w.2 (unread w.0 w.2 (λ q. w.4 (q ∙ sym (is w.0 w.1 w.2 w.3))))
 
 -- a word's numbers that are not those lent: these do not fit, or are of no thing that a word can stand for
 pub no_thing : {A : Type 0} (f : Form A) (Holds : A → Type 0) (pack : A → ℕ) (unpack : ℕ → A) (ns nums : List ℕ) (word : ℕ)

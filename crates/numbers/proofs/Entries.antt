@@ -1,7 +1,7 @@
 -- TLB entries: their numbers, and the words of numbers.
-use Prim.Native.Nat.{ℕ, ◌+◌, ◌*◌, ◌-◌, ◌/◌, ◌%◌, ◌<◌, ◌≤◌}
+use Prim.Native.Nat.{ℕ, ◌+◌, ◌*◌, ◌-◌, ◌/◌, ◌%◌, ◌<◌}
 use native.Mathlib.Omega.{arith}
-use mathlib.Core.Bool.{Bool, true, false}
+use mathlib.Core.Bool.{true}
 use mathlib.Core.Path.{◌≡◌, refl, sym, ◌∙◌, ap, subst}
 use mathlib.Core.List.{List, [], ◌∷◌}
 use lib.Dec.{eqb}
@@ -10,17 +10,17 @@ use lib.Seq.{take_all}
 use borrow.Author.Tests.{lt-ltb}
 use Rattle.values.specs.Bits.{bit, number}
 use Rattle.values.specs.declared.Entry.{Entry}
-use Rattle.values.proofs.Cases.{clash, number_low}
+use Rattle.values.proofs.Cases.{number_low}
 use Rattle.values.proofs.Fields.{bit_number}
 use Rattle.form.specs.Form.{fit_in, put_in}
 use Rattle.form.specs.Texts.{line_places}
 use Rattle.tlb.specs.Packing.{entry_of, word_of}
 use Rattle.walk.specs.Ranges.{InRange}
 use Rattle.numbers.specs.Fields.{entry_from}
-use Rattle.numbers.specs.Code.{entry_line, part, Packs}
+use Rattle.numbers.specs.Code.{entry_line, Packs}
 use Rattle.tlb.proofs.Packing.{entry_word}
 use Rattle.numbers.proofs.Each.{no_thing}
-use Rattle.numbers.proofs.Cells.{cells, part_cells, cells_long, fit_first, fit_rest, bit_back, bit_low, number_back}
+use Rattle.numbers.proofs.Cells.{cells, part_cells, fit_first, fit_rest, bit_back, bit_low, number_back}
 
 pub entry_wide : length entry_line.places ≡ 11
 unfolding line_places
@@ -267,33 +267,19 @@ module _ (v s x y d a0 a1 a2 a3 c b w : ℕ) where
       → Packs entry_line InRange word_of ms w
   entry_packs e = record { same = packed e }
 
--- eleven numbers from a place on, one by one
-pub entry_part : (l : List ℕ) (at : ℕ) → at + 11 ≤ length l
-    → get_or l at 0 ∷ get_or l (at + 1) 0 ∷ get_or l (at + 2) 0 ∷ get_or l (at + 3) 0 ∷ get_or l (at + 4) 0 ∷ get_or l (at + 5) 0 ∷ get_or l (at + 6) 0
-    ∷ get_or l (at + 7) 0 ∷ get_or l (at + 8) 0 ∷ get_or l (at + 9) 0 ∷ get_or l (at + 10) 0 ∷ [] ≡ part l at 11
+-- the word of eleven numbers
+pub entry_row : (r : List ℕ) (w : ℕ) → length r ≡ 11
+    → w ≡ get_or r 0 0 % 2 + 2 * (get_or r 9 0 % 2 + 2 * (get_or r 10 0 % 2 + 2 * (get_or r 1 0 % 32 + 32 * (get_or r 4 0 % 0x100
+    + 0x100 * (get_or r 5 0 % 4 + 4 * (get_or r 6 0 % 4 + 4 * (get_or r 7 0 % 4 + 4 * (get_or r 8 0 % 4)))
+    + 0x100 * (get_or r 3 0 / 0x1000 + 0x100000 * (get_or r 2 0 / 0x1000)))))))
+    → Packs entry_line InRange word_of r w
 unfolding cells
-entry_part l at h =
-    let p2 : at + 1 + 1 ≡ at + 2 = omega arith in
-    let p3 : at + 2 + 1 ≡ at + 3 = omega arith in
-    let p4 : at + 3 + 1 ≡ at + 4 = omega arith in
-    let p5 : at + 4 + 1 ≡ at + 5 = omega arith in
-    let p6 : at + 5 + 1 ≡ at + 6 = omega arith in
-    let p7 : at + 6 + 1 ≡ at + 7 = omega arith in
-    let p8 : at + 7 + 1 ≡ at + 8 = omega arith in
-    let p9 : at + 8 + 1 ≡ at + 9 = omega arith in
-    let p10 : at + 9 + 1 ≡ at + 10 = omega arith in
-    sym (part_cells 11 l at h ∙ rw (p2, p3, p4, p5, p6, p7, p8, p9, p10))
+entry_row r w long e =
+    subst (λ (ns : List ℕ). Packs entry_line InRange word_of ns w) (sym (eleven r long)) (entry_packs _ _ _ _ _ _ _ _ _ _ _ w e)
 
 -- ---- an entry read
 
--- the numbers lent are not those of the word's entry: they do not fit, or are of no entry in range
-pub entry_unread : (l : List ℕ) (at w : ℕ) (nums : List ℕ) (r : Bool) → at + 11 ≤ length l
-    → Packs entry_line InRange word_of (get_or l at 0 ∷ get_or l (at + 1) 0 ∷ get_or l (at + 2) 0 ∷ get_or l (at + 3) 0 ∷ get_or l (at + 4) 0 ∷ get_or l (at + 5) 0
-    ∷ get_or l (at + 6) 0 ∷ get_or l (at + 7) 0 ∷ get_or l (at + 8) 0 ∷ get_or l (at + 9) 0 ∷ get_or l (at + 10) 0 ∷ []) w
-    → nums ≡ entry_line.numbers (entry_of w) → (part l at (length nums) ≡ nums → r ≡ true) → r ≡ false
-    → entry_line.fits (part l at 11) ≡ true → InRange (entry_line.thing (part l at 11)) → ⊥
-entry_unread l at w nums r room p e same differs =
-    let long : length nums ≡ 11 = ap length e ∙ entry_long (entry_of w) in
-    no_thing entry_line InRange word_of entry_of (part l at 11) nums w (subst (λ (ns : List ℕ). Packs entry_line InRange word_of ns w) (entry_part l at room) p)
-    e entry_word (entries_again (part l at 11) (ap length (part_cells 11 l at room) ∙ cells_long 11 l at))
-    (λ q. clash {b = r} (same (ap (λ (n : ℕ). part l at n) long ∙ q)) differs)
+-- numbers that are not those of their word's entry do not fit, or are of no entry in range
+pub entry_unread : (ns : List ℕ) (w : ℕ) → length ns ≡ 11 → Packs entry_line InRange word_of ns w → (ns ≡ entry_line.numbers (entry_of w) → ⊥)
+    → entry_line.fits ns ≡ true → InRange (entry_line.thing ns) → ⊥
+entry_unread ns w long p z = no_thing entry_line InRange word_of entry_of ns (entry_line.numbers (entry_of w)) w p refl entry_word (entries_again ns long) z

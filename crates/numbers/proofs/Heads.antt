@@ -5,10 +5,9 @@ use mathlib.Core.Bool.{true}
 use mathlib.Core.Path.{◌≡◌, refl, sym, ◌∙◌, ap}
 use mathlib.Core.List.{List, [], ◌∷◌, ◌++◌, append_assoc, append-nil}
 use lib.Dec.{ltb}
-use lib.ListN.{length, get_or, drop, set, length-append}
+use lib.ListN.{length, get_or, drop, length-append}
 use lib.Seq.{take_all, drop-length}
 use borrow.Author.Tests.{lt-ltb}
-use Rattle.values.proofs.Toward.{Toward, toward_step, toward_all}
 use Rattle.values.specs.Registers.{registers_from, cp15_from}
 use Rattle.values.specs.Counts.{counts_from}
 use Rattle.values.specs.declared.Registers.{Registers}
@@ -20,7 +19,7 @@ use Rattle.form.specs.Form.{fit_in, put_in}
 use Rattle.form.specs.Texts.{line_places}
 use Rattle.numbers.specs.Fields.{Head, head_from, set_fields}
 use Rattle.numbers.specs.Code.{head_line, part}
-use Rattle.numbers.proofs.Cells.{cells, part_cells, cells_at, cells_long}
+use Rattle.numbers.proofs.Cells.{cells, part_cells}
 
 pub head_wide : length head_line.places ≡ 29
 unfolding line_places set_fields
@@ -142,17 +141,3 @@ cells_fit ns h =
 
 pub head_fits : (ns : List ℕ) → 29 ≤ length ns → ((k : ℕ) → get_or ns k 0 < 0x100000000) → head_line.fits (part ns 0 29) ≡ true
 head_fits ns room h = ap (λ (l : List ℕ). head_line.fits l) (part_cells 29 ns 0 (omega arith)) ∙ cells_fit ns h
-
--- a pointer more
-pub pointer_step : (ns old l : List ℕ) (i : ℕ) → 23 ≤ length ns → length old ≡ 16 → i < 16 → Toward (part ns 7 16) old l i
-    → Toward (part ns 7 16) old (set l i (get_or ns (7 + i) 0)) (i + 1)
-pointer_step ns old l i room long h t =
-    let p = part_cells 16 ns 7 (omega arith) in
-    let m = t.long in
-    let k = ap length p ∙ cells_long 16 ns 7 in
-    toward_step (part ns 7 16) old l i t (get_or ns (7 + i) 0) 0 (omega arith) (omega arith)
-    (sym (ap (λ (x : List ℕ). get_or x i 0) p ∙ cells_at 16 ns 7 i h))
-
-pub pointers_read : (ns old l : List ℕ) → 23 ≤ length ns → length old ≡ 16 → Toward (part ns 7 16) old l 16 → l ≡ part ns 7 16
-pointers_read ns old l room long t =
-    toward_all (part ns 7 16) old l 16 t long (ap length (part_cells 16 ns 7 (omega arith)) ∙ cells_long 16 ns 7)

@@ -1,7 +1,7 @@
 -- Cache lines: their numbers, and the words of numbers.
-use Prim.Native.Nat.{ℕ, ◌+◌, ◌*◌, ◌/◌, ◌%◌, ◌<◌, ◌≤◌}
+use Prim.Native.Nat.{ℕ, ◌+◌, ◌*◌, ◌/◌, ◌%◌, ◌<◌}
 use native.Mathlib.Omega.{arith}
-use mathlib.Core.Bool.{Bool, true, false}
+use mathlib.Core.Bool.{true}
 use mathlib.Core.Path.{◌≡◌, refl, sym, ◌∙◌, ap, subst}
 use mathlib.Core.List.{List, [], ◌∷◌}
 use lib.Dec.{eqb}
@@ -10,16 +10,16 @@ use lib.Seq.{take_all}
 use borrow.Author.Tests.{lt-ltb}
 use Rattle.values.specs.Bits.{bit, number}
 use Rattle.values.specs.declared.Line.{Line}
-use Rattle.values.proofs.Cases.{clash, number_low}
+use Rattle.values.proofs.Cases.{number_low}
 use Rattle.values.proofs.Fields.{bit_number}
 use Rattle.form.specs.Form.{fit_in, put_in}
 use Rattle.form.specs.Texts.{line_places}
 use Rattle.cache.specs.Packing.{line_of, word_of}
 use Rattle.numbers.specs.Fields.{line_from}
-use Rattle.numbers.specs.Code.{cache_line, part, Packs, LineHolds}
+use Rattle.numbers.specs.Code.{cache_line, Packs, LineHolds}
 use Rattle.cache.proofs.Words.{line_word}
 use Rattle.numbers.proofs.Each.{no_thing}
-use Rattle.numbers.proofs.Cells.{cells, part_cells, cells_long, fit_first, fit_rest, bit_back, bit_low, number_back}
+use Rattle.numbers.proofs.Cells.{cells, part_cells, fit_first, fit_rest, bit_back, bit_low, number_back}
 
 pub line_wide : length cache_line.places ≡ 5
 unfolding line_places
@@ -127,25 +127,16 @@ module _ (t f v l h w : ℕ) (e : w ≡ v % 2 + 2 * (l % 2 + 2 * (h % 2 + 2 * (f
   pub line_packs : Packs cache_line LineHolds word_of (t ∷ f ∷ v ∷ l ∷ h ∷ []) w
   line_packs = record { same = packed }
 
--- five numbers from a place on, one by one
-pub line_part : (l : List ℕ) (at : ℕ) → at + 5 ≤ length l
-    → get_or l at 0 ∷ get_or l (at + 1) 0 ∷ get_or l (at + 2) 0 ∷ get_or l (at + 3) 0 ∷ get_or l (at + 4) 0 ∷ [] ≡ part l at 5
+-- the word of five numbers
+pub line_row : (r : List ℕ) (w : ℕ) → length r ≡ 5
+    → w ≡ get_or r 2 0 % 2 + 2 * (get_or r 3 0 % 2 + 2 * (get_or r 4 0 % 2 + 2 * (get_or r 1 0 % 0x20000000 + 0x20000000 * get_or r 0 0)))
+    → Packs cache_line LineHolds word_of r w
 unfolding cells
-line_part l at h =
-    let p2 : at + 1 + 1 ≡ at + 2 = omega arith in
-    let p3 : at + 2 + 1 ≡ at + 3 = omega arith in
-    let p4 : at + 3 + 1 ≡ at + 4 = omega arith in
-    sym (part_cells 5 l at h ∙ rw (p2, p3, p4))
+line_row r w long e = subst (λ (ns : List ℕ). Packs cache_line LineHolds word_of ns w) (sym (five r long)) (line_packs _ _ _ _ _ w e)
 
 -- ---- a line read
 
--- the numbers lent are not those of the word's line: they do not fit, or are of no line that a word can stand for
-pub line_unread : (l : List ℕ) (at w : ℕ) (nums : List ℕ) (r : Bool) → at + 5 ≤ length l
-    → Packs cache_line LineHolds word_of (get_or l at 0 ∷ get_or l (at + 1) 0 ∷ get_or l (at + 2) 0 ∷ get_or l (at + 3) 0 ∷ get_or l (at + 4) 0 ∷ []) w
-    → nums ≡ cache_line.numbers (line_of w) → (part l at (length nums) ≡ nums → r ≡ true) → r ≡ false
-    → cache_line.fits (part l at 5) ≡ true → LineHolds (cache_line.thing (part l at 5)) → ⊥
-line_unread l at w nums r room p e same differs =
-    let long : length nums ≡ 5 = ap length e ∙ line_long (line_of w) in
-    no_thing cache_line LineHolds word_of line_of (part l at 5) nums w (subst (λ (ns : List ℕ). Packs cache_line LineHolds word_of ns w) (line_part l at room) p)
-    e line_word (lines_again (part l at 5) (ap length (part_cells 5 l at room) ∙ cells_long 5 l at))
-    (λ q. clash {b = r} (same (ap (λ (n : ℕ). part l at n) long ∙ q)) differs)
+-- numbers that are not those of their word's line do not fit, or are of no line that a word can stand for
+pub line_unread : (ns : List ℕ) (w : ℕ) → length ns ≡ 5 → Packs cache_line LineHolds word_of ns w → (ns ≡ cache_line.numbers (line_of w) → ⊥)
+    → cache_line.fits ns ≡ true → LineHolds (cache_line.thing ns) → ⊥
+line_unread ns w long p z = no_thing cache_line LineHolds word_of line_of ns (cache_line.numbers (line_of w)) w p refl line_word (lines_again ns long) z

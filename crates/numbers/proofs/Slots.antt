@@ -2,7 +2,7 @@
 use Prim.Native.Nat.{ℕ, zero, suc, ◌+◌, ◌%◌, ◌<◌, ◌≤◌}
 use native.Mathlib.Omega.{arith}
 use native.Mathlib.Nat.{add-zero}
-use mathlib.Core.Bool.{Bool, true, false}
+use mathlib.Core.Bool.{true}
 use mathlib.Core.Path.{◌≡◌, refl, sym, ◌∙◌, ap, subst}
 use mathlib.Core.List.{List, [], ◌∷◌, ◌++◌, map}
 use lib.Dec.{ltb}
@@ -10,14 +10,13 @@ use lib.ListN.{length, get_or, set, drop, replicate, length-append, length-map, 
 use lib.Seq.{take_all, take_at}
 use borrow.Author.Tests.{lt-ltb}
 use Rattle.values.specs.declared.Slot.{Slot}
-use Rattle.values.proofs.Cases.{clash}
 use Rattle.values.proofs.Toward.{Toward, toward_step, toward_all}
 use Rattle.buffer.specs.Packing.{slot_of, word_of}
 use Rattle.buffer.proofs.Slots.{word_block, word_mask_lem}
 use Rattle.form.specs.Form.{Field, word, fit_in, put_in}
 use Rattle.form.specs.Texts.{line_places}
 use Rattle.numbers.specs.Fields.{byte_fields, slot_from}
-use Rattle.numbers.specs.Code.{buffer_line, part, low_bytes, SlotHolds}
+use Rattle.numbers.specs.Code.{buffer_line, part, low_bytes}
 use Rattle.numbers.proofs.Cells.{cells, part_cells, cells_at, cells_long, fit_first, fit_rest, fit_behind}
 
 pub slot_wide : length buffer_line.places ≡ 18
@@ -32,11 +31,6 @@ slot_long s = refl
 pub slot_numbers_are : (s : Slot) → buffer_line.numbers s ≡ cells 16 s.bytes 0 ++ s.mask ∷ s.block ∷ []
 unfolding byte_fields cells
 slot_numbers_are s = refl
-
--- eighteen numbers are of the entry with the first sixteen as bytes
-pub slot_is : (ns : List ℕ) → buffer_line.thing (cells 18 ns 0) ≡ slot_from (get_or ns 17 0) (get_or ns 16 0) (cells 16 ns 0)
-unfolding byte_fields cells put_in
-slot_is ns = refl
 
 -- the bytes of eighteen numbers from a place on
 pub slot_bytes_are : (ns : List ℕ) (i : ℕ) → (buffer_line.thing (cells 18 ns i)).bytes ≡ cells 16 ns i
@@ -246,10 +240,7 @@ slot_numbers_same l at w b nums room e f n fits =
     in
     sym (slots_again (part l at 18) (ap length p ∙ cells_long 18 l at)) ∙ ap (λ (x : Slot). buffer_line.numbers x) (sym s) ∙ sym n
 
--- the numbers lent are not those of the entry of their word and bytes: they do not fit
-pub slot_unread : (l : List ℕ) (at w : ℕ) (b nums : List ℕ) (r : Bool) → at + 18 ≤ length l → w ≡ word_of (get_or l (at + 17) 0) (get_or l (at + 16) 0)
-    → b ≡ low_bytes l at → nums ≡ buffer_line.numbers (slot_of w b) → (part l at (length nums) ≡ nums → r ≡ true) → r ≡ false
-    → buffer_line.fits (part l at 18) ≡ true → SlotHolds (buffer_line.thing (part l at 18)) → ⊥
-slot_unread l at w b nums r room e f n same differs fits holds =
-    let long : length nums ≡ 18 = ap length n ∙ slot_long (slot_of w b) in
-    clash {b = r} (same (ap (λ (k : ℕ). part l at k) long ∙ slot_numbers_same l at w b nums room e f n fits)) differs
+-- numbers that are not those of the entry of their word and bytes do not fit
+pub slot_unread : (l : List ℕ) (at w : ℕ) (b : List ℕ) → at + 18 ≤ length l → w ≡ word_of (get_or l (at + 17) 0) (get_or l (at + 16) 0)
+    → b ≡ low_bytes l at → (part l at 18 ≡ buffer_line.numbers (slot_of w b) → ⊥) → buffer_line.fits (part l at 18) ≡ true → ⊥
+slot_unread l at w b room e f z fits = z (slot_numbers_same l at w b (buffer_line.numbers (slot_of w b)) room e f refl fits)

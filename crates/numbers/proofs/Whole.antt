@@ -11,12 +11,12 @@ use Rattle.values.specs.Empty.{empty_entry, empty_line, empty_slot}
 use Rattle.values.specs.declared.Entry.{Entry}
 use Rattle.values.specs.declared.Line.{Line}
 use Rattle.values.specs.declared.Slot.{Slot}
-use Rattle.values.proofs.Cases.{clash, and_left, and_right}
+use Rattle.values.proofs.Cases.{and_left, and_right}
 use Rattle.walk.specs.Ranges.{InRange}
 use Rattle.printed.specs.Code.{over}
 use Rattle.form.specs.Form.{Form, pair, each_places, each_numbers, each_fits, each_thing}
 use Rattle.numbers.specs.Text.{Saved, form}
-use Rattle.numbers.specs.Code.{head_line, entry_line, cache_line, buffer_line, LineHolds, SlotHolds, ThingsRead, AllRead}
+use Rattle.numbers.specs.Code.{head_line, entry_line, cache_line, buffer_line, LineHolds, SlotHolds, ThingsRead, AllRead, Unfit}
 use Rattle.numbers.specs.Fields.{Head}
 use Rattle.numbers.proofs.Heads.{head_wide, head_long, four_laid}
 use Rattle.numbers.proofs.Entries.{entry_wide, entry_long}
@@ -158,8 +158,7 @@ all_laid o p q r t s long es ls ss e f g k =
 
 -- ---- all numbers read
 
-module _ (ns : List ℕ) (h : Head) (es : List Entry) (ls : List Line) (ss : List Slot) (head_is : h ≡ head_line.thing (take 29 ns))
-    (head-fit : head_line.fits (take 29 ns) ≡ true) where
+module _ (ns : List ℕ) where
   abbrev E : Bool
   E = each_fits entry_line 32 (drop 29 ns)
 
@@ -169,39 +168,35 @@ module _ (ns : List ℕ) (h : Head) (es : List Entry) (ls : List Line) (ss : Lis
   abbrev S : Bool
   S = each_fits buffer_line 8 (drop 2941 ns)
 
+  -- all numbers behind the first line fit
+  rest_fit : form.fits ns ≡ true → (E && (L && S)) ≡ true
+  rest_fit fits = and_right (head_line.fits (take 29 ns)) (E && (L && S)) (sym (form_fits ns) ∙ fits)
+
   -- the entries do not fit, or are not in range
-  pub no_entries_lem : (left : List Entry) → ThingsRead entry_line InRange empty_entry 32 (drop 29 ns) left false → AllRead ns (pair h (pair es (pair ls ss))) false
-  no_entries_lem left t =
-      record {
-        same = λ e. clash {b = false} e refl;
-        fits = λ e. clash {b = false} e refl;
-        unfit = λ e fits holds. t.unfit refl
-            (and_left E (L && S) (and_right (head_line.fits (take 29 ns)) (E && (L && S)) (sym (form_fits ns) ∙ fits)))
-            (λ i k. subst InRange (ap (λ (s : Saved). get_or s.rest.first i empty_entry) (form_thing ns)) (holds.entries_hold i k));
-      }
+  pub no_entries_lem : (left : List Entry) → ThingsRead entry_line InRange empty_entry 32 (drop 29 ns) left false → Unfit ns
+  no_entries_lem left t fits holds =
+      t.unfit refl (and_left E (L && S) (rest_fit fits))
+      (λ i k. subst InRange (ap (λ (s : Saved). get_or s.rest.first i empty_entry) (form_thing ns)) (holds.entries_hold i k))
 
   -- the lines do not fit
-  pub no_lines_lem : (left : List Line) → ThingsRead cache_line LineHolds empty_line 512 (drop 381 ns) left false → AllRead ns (pair h (pair es (pair ls ss))) false
-  no_lines_lem left t =
-      record {
-        same = λ e. clash {b = false} e refl;
-        fits = λ e. clash {b = false} e refl;
-        unfit = λ e fits holds. t.unfit refl
-            (and_left L S (and_right E (L && S) (and_right (head_line.fits (take 29 ns)) (E && (L && S)) (sym (form_fits ns) ∙ fits))))
-            (λ i k. subst LineHolds (ap (λ (s : Saved). get_or s.rest.rest.first i empty_line) (form_thing ns)) (holds.lines_hold i k));
-      }
+  pub no_lines_lem : (left : List Line) → ThingsRead cache_line LineHolds empty_line 512 (drop 381 ns) left false → Unfit ns
+  no_lines_lem left t fits holds =
+      t.unfit refl (and_left L S (and_right E (L && S) (rest_fit fits)))
+      (λ i k. subst LineHolds (ap (λ (s : Saved). get_or s.rest.rest.first i empty_line) (form_thing ns)) (holds.lines_hold i k))
 
-  -- entries and lines are read: the buffer decides
-  pub all_read : (r : Bool) → ThingsRead entry_line InRange empty_entry 32 (drop 29 ns) es true
-      → ThingsRead cache_line LineHolds empty_line 512 (drop 381 ns) ls true → ThingsRead buffer_line SlotHolds empty_slot 8 (drop 2941 ns) ss r
-      → AllRead ns (pair h (pair es (pair ls ss))) r
-  all_read r t u v =
+  -- the buffer does not fit
+  pub no_slots_lem : (left : List Slot) → ThingsRead buffer_line SlotHolds empty_slot 8 (drop 2941 ns) left false → Unfit ns
+  no_slots_lem left t fits holds = t.unfit refl (and_right L S (and_right E (L && S) (rest_fit fits))) (λ i k. tt)
+
+  -- all are read
+  pub all_read : (h : Head) (es : List Entry) (ls : List Line) (ss : List Slot) → h ≡ head_line.thing (take 29 ns)
+      → head_line.fits (take 29 ns) ≡ true → ThingsRead entry_line InRange empty_entry 32 (drop 29 ns) es true
+      → ThingsRead cache_line LineHolds empty_line 512 (drop 381 ns) ls true → ThingsRead buffer_line SlotHolds empty_slot 8 (drop 2941 ns) ss true
+      → AllRead ns (pair h (pair es (pair ls ss)))
+  all_read h es ls ss head_is head_fit t u v =
       record {
-        same = λ e. rw (head_is, t.same refl, u.same refl, v.same e) (sym (form_thing ns));
-        fits = λ e. form_fits ns ∙ rw (head-fit, t.fits refl, u.fits refl, v.fits e);
-        unfit = λ e fits holds. v.unfit e
-            (and_right L S (and_right E (L && S) (and_right (head_line.fits (take 29 ns)) (E && (L && S)) (sym (form_fits ns) ∙ fits))))
-            (λ i k. tt);
+        same = rw (head_is, t.same refl, u.same refl, v.same refl) (sym (form_thing ns));
+        fits = form_fits ns ∙ rw (head_fit, t.fits refl, u.fits refl, v.fits refl);
       }
 
 -- the same, by another name of the number of things and of the flag

@@ -1,5 +1,5 @@
 -- What the code has of places: the words that stand for them, and the numbers that it is lent.
-use Rattle.std.specs.Prelude.{ℕ, ◌%◌, ◌<◌, Bool, true, false, ◌≡◌, List, map, length, get_or, take, drop}
+use Rattle.std.specs.Prelude.{ℕ, zero, suc, ◌+◌, ◌*◌, ◌%◌, ◌<◌, Bool, true, false, ◌≡◌, List, [], ◌++◌, map, length, get_or, take, drop}
 use Rattle.values.specs.Empty.{empty_entry, empty_line}
 use Rattle.values.specs.declared.Line.{Line}
 use Rattle.values.specs.declared.Slot.{Slot}
@@ -18,6 +18,16 @@ use Rattle.numbers.specs.Fields.{Head, head_from}
 -- the numbers of a line, n of those lent, from a place on
 abbrev pub part : List ℕ → ℕ → ℕ → List ℕ
 part ns from n = take n (drop from ns)
+
+-- n rows, one behind another, from row i on
+unfoldable pub rows_from : (ℕ → List ℕ) → ℕ → ℕ → List ℕ
+rows_from rows i zero = []
+rows_from rows i (suc n) = rows i ++ rows_from rows (i + 1) n
+
+-- Whether n rows stand in a list from a place on, each of `width` numbers: where they do, the numbers of each row are so, and where not, a row's are not.
+pub record RowsSame (ns : List ℕ) (from width n : ℕ) (IsRow : ℕ → List ℕ → Type 0) (all : Bool) : Type 0 where
+  pub same : all ≡ true → (i : ℕ) → i < n → IsRow i (part ns (from + i * width) width)
+  pub differs : all ≡ false → (i : ℕ) × (row : List ℕ) × (i < n) × IsRow i row × (part ns (from + i * width) width ≡ row → ⊥)
 
 -- the low bytes of sixteen numbers
 abbrev pub low_bytes : List ℕ → ℕ → List ℕ
@@ -67,7 +77,10 @@ pub record AllHold (s : Saved) : Type 0 where
   pub lines_hold : (i : ℕ) → i < 512 → LineHolds (get_or s.rest.rest.first i empty_line)
 
 -- numbers read as what a text has
-pub record AllRead (ns : List ℕ) (s : Saved) (fit : Bool) : Type 0 where
-  pub same : fit ≡ true → s ≡ form.thing ns
-  pub fits : fit ≡ true → form.fits ns ≡ true
-  pub unfit : fit ≡ false → form.fits ns ≡ true → AllHold (form.thing ns) → ⊥
+pub record AllRead (ns : List ℕ) (s : Saved) : Type 0 where
+  pub same : s ≡ form.thing ns
+  pub fits : form.fits ns ≡ true
+
+-- a number does not fit, or an entry or a line is not as in a sound state
+abbrev pub Unfit : List ℕ → Type 0
+Unfit ns = form.fits ns ≡ true → AllHold (form.thing ns) → ⊥

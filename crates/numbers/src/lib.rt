@@ -1,7 +1,7 @@
 // The numbers of TLB entries, cache lines and buffer entries, and the words of numbers.
 #![tactic(auto)]
 
-ghost use Rattle.std.specs.Prelude.{◌≡◌, true, [], ◌∷◌, ◌+◌, ◌*◌, ◌≤◌, ◌<◌, length, drop};
+ghost use Rattle.std.specs.Prelude.{◌≡◌, true, ◌+◌, ◌*◌, ◌≤◌, ◌<◌, length, drop, get_or, replicate, MatchOption};
 ghost use Rattle.printed.specs.Code.{over};
 ghost use Rattle.form.specs.Form.{each_numbers};
 ghost use Rattle.tlb.specs.Packing.{entry_of, entries_of, word_of};
@@ -17,33 +17,10 @@ ghost use Rattle.numbers.specs.Code as code;
 
 use values::{Counts, Cp15};
 
-// Numbers laid over a list, from a place on.
-pub fn put(numbers: &mut [u32], at: usize, part: &[u32])
-    requires { at + length part.now ≤ length numbers.old }
-    ensures { numbers.new ≡ over numbers.old at part.now }
-{
-    let mut i: usize = 0;
-    while i < part.len() {
-        numbers[at + i] = part[i];
-        i += 1;
-    }
-}
+mod rows;
 
-// Whether a list has these numbers, from a place on.
-pub fn same(numbers: &[u32], at: usize, part: &[u32]) -> bool
-    requires { at + length part.now ≤ length numbers.now }
-    ensures { (result ≡ true → code.part numbers.now at (length part.now) ≡ part.now)
-        × (code.part numbers.now at (length part.now) ≡ part.now → result ≡ true) }
-{
-    let mut i: usize = 0;
-    while i < part.len() {
-        if numbers[at + i] != part[i] {
-            return false;
-        }
-        i += 1;
-    }
-    true
-}
+pub use rows::{put, same};
+use rows::{put_rows, row_at, same_rows, set_each};
 
 // The numbers of a TLB entry.
 fn entry_numbers(w: u64) -> [u32; 11]
@@ -82,10 +59,8 @@ fn slot_numbers(w: u64, bytes: [u8; 16]) -> [u32; 18]
     ensures { result ≡ (code.buffer_line).numbers (slot_of w bytes) }
 {
     let mut out = [0u32; 18];
-    let mut i: usize = 0;
-    while i < 16 {
-        out[i] = bytes[i] as u32;
-        i += 1;
+    for i in 0..16 {
+        out[i] = u32::from(bytes[i]);
     }
     out[16] = (w % 0x100000000) as u32;
     out[17] = (w / 0x100000000) as u32;
@@ -97,14 +72,16 @@ pub fn put_entries(numbers: &mut [u32], from: usize, entries: &[u64])
     requires { (from + length entries.now * 11 ≤ length numbers.old) × (length numbers.old ≤ 0x10000) }
     ensures { numbers.new ≡ over numbers.old from (each_numbers code.entry_line (entries_of entries.now)) }
 {
-    let mut at = from;
-    let mut i: usize = 0;
-    while i < entries.len() {
-        let part = entry_numbers(entries[i]);
-        put(numbers, at, &part);
-        at += 11;
-        i += 1;
-    }
+    put_rows(
+        numbers,
+        from,
+        11,
+        entries.len(),
+        |i| -> [u32; 11]
+            requires { i < length entries.now }
+            ensures { result ≡ (code.entry_line).numbers (entry_of (get_or entries.entry.now i 0)) }
+        { entry_numbers(entries[i]) },
+    );
 }
 
 // The numbers of cache lines, laid from a place on.
@@ -112,14 +89,16 @@ pub fn put_lines(numbers: &mut [u32], from: usize, lines: &[u64])
     requires { (from + length lines.now * 5 ≤ length numbers.old) × (length numbers.old ≤ 0x10000) }
     ensures { numbers.new ≡ over numbers.old from (each_numbers code.cache_line (lines_of lines.now)) }
 {
-    let mut at = from;
-    let mut i: usize = 0;
-    while i < lines.len() {
-        let part = line_numbers(lines[i]);
-        put(numbers, at, &part);
-        at += 5;
-        i += 1;
-    }
+    put_rows(
+        numbers,
+        from,
+        5,
+        lines.len(),
+        |i| -> [u32; 5]
+            requires { i < length lines.now }
+            ensures { result ≡ (code.cache_line).numbers (line_of (get_or lines.entry.now i 0)) }
+        { line_numbers(lines[i]) },
+    );
 }
 
 // The numbers of buffer entries, laid from a place on.
@@ -129,33 +108,35 @@ pub fn put_slots(numbers: &mut [u32], from: usize, words: &[u64], bytes: &[[u8; 
     ensures { numbers.new
         ≡ over numbers.old from (each_numbers code.buffer_line (slots_of words.now bytes.now)) }
 {
-    let mut at = from;
-    let mut i: usize = 0;
-    while i < words.len() {
-        let part = slot_numbers(words[i], bytes[i]);
-        put(numbers, at, &part);
-        at += 18;
-        i += 1;
-    }
+    put_rows(
+        numbers,
+        from,
+        18,
+        words.len(),
+        |i| -> [u32; 18]
+            requires { (i < length words.now) × (i < length bytes.now) }
+            ensures { result ≡ (code.buffer_line).numbers (slot_of (get_or words.entry.now i 0) (get_or bytes.entry.now i (replicate 16 0))) }
+        { slot_numbers(words[i], bytes[i]) },
+    );
 }
 
 // The word of the TLB entry of these numbers, where they fit and it is in range.
-fn entry_word(
-    valid: u32,
-    size: u32,
-    vbase: u32,
-    pbase: u32,
-    domain: u32,
-    ap0: u32,
-    ap1: u32,
-    ap2: u32,
-    ap3: u32,
-    cacheable: u32,
-    bufferable: u32,
-) -> u64
-    ensures { code.Packs code.entry_line InRange word_of
-        (valid ∷ size ∷ vbase ∷ pbase ∷ domain ∷ ap0 ∷ ap1 ∷ ap2 ∷ ap3 ∷ cacheable ∷ bufferable ∷ []) result }
+fn entry_word(row: [u32; 11]) -> u64
+    ensures { code.Packs code.entry_line InRange word_of row result }
 {
+    let [
+        valid,
+        size,
+        vbase,
+        pbase,
+        domain,
+        ap0,
+        ap1,
+        ap2,
+        ap3,
+        cacheable,
+        bufferable,
+    ] = row;
     let bases = (pbase / 0x1000) as u64 + 0x100000 * ((vbase / 0x1000) as u64);
     let rights = ap0 % 4 + 4 * (ap1 % 4 + 4 * (ap2 % 4 + 4 * (ap3 % 4)));
     let high = (domain % 0x100) as u64 + 0x100 * (rights as u64 + 0x100 * bases);
@@ -164,43 +145,36 @@ fn entry_word(
 }
 
 // The words of the TLB entries whose numbers stand from a place on; false only where a number does not fit, or an entry is not in range.
+// A bool here and in the next two: the words are in the caller's list, and an option would hold nothing.
 pub fn read_entries(numbers: &[u32], from: usize, entries: &mut [u64]) -> bool
     requires { (from + length entries.old * 11 ≤ length numbers.now) × (length numbers.now ≤ 0x10000) }
     ensures { code.ThingsRead code.entry_line InRange empty_entry (length entries.old) (drop from numbers.now)
         (entries_of entries.new) result }
 {
-    let mut at = from;
-    let mut i: usize = 0;
-    while i < entries.len() {
-        let w = entry_word(
-            numbers[at],
-            numbers[at + 1],
-            numbers[at + 2],
-            numbers[at + 3],
-            numbers[at + 4],
-            numbers[at + 5],
-            numbers[at + 6],
-            numbers[at + 7],
-            numbers[at + 8],
-            numbers[at + 9],
-            numbers[at + 10],
-        );
-        let part = entry_numbers(w);
-        if same(numbers, at, &part) {
-            entries[i] = w;
-        } else {
-            return false;
-        }
-        at += 11;
-        i += 1;
-    }
-    true
+    set_each(
+        entries,
+        |i| -> u64
+            requires { from + i * 11 + 11 ≤ length numbers.now }
+            ensures { code.Packs code.entry_line InRange word_of (code.part numbers.entry.now (from + i * 11) 11) result }
+        { entry_word(row_at(numbers, from + i * 11)) },
+    );
+    same_rows(
+        numbers,
+        from,
+        11,
+        entries.len(),
+        |i| -> [u32; 11]
+            requires { i < length entries.now }
+            ensures { result ≡ (code.entry_line).numbers (entry_of (get_or entries.entry.now i 0)) }
+        { entry_numbers(entries[i]) },
+    )
 }
 
 // The word of the cache line of these numbers, where they fit and it has a physical line number of 29 bits.
-fn line_word(tag: u32, frame: u32, valid: u32, low: u32, high: u32) -> u64
-    ensures { code.Packs code.cache_line code.LineHolds cached.word_of (tag ∷ frame ∷ valid ∷ low ∷ high ∷ []) result }
+fn line_word(row: [u32; 5]) -> u64
+    ensures { code.Packs code.cache_line code.LineHolds cached.word_of row result }
 {
+    let [tag, frame, valid, low, high] = row;
     let place = (frame % 0x20000000) as u64 + 0x20000000 * (tag as u64);
     (valid % 2) as u64 + 2 * ((low % 2) as u64 + 2 * ((high % 2) as u64 + 2 * place))
 }
@@ -211,26 +185,23 @@ pub fn read_lines(numbers: &[u32], from: usize, lines: &mut [u64]) -> bool
     ensures { code.ThingsRead code.cache_line code.LineHolds empty_line (length lines.old) (drop from numbers.now)
         (lines_of lines.new) result }
 {
-    let mut at = from;
-    let mut i: usize = 0;
-    while i < lines.len() {
-        let w = line_word(
-            numbers[at],
-            numbers[at + 1],
-            numbers[at + 2],
-            numbers[at + 3],
-            numbers[at + 4],
-        );
-        let part = line_numbers(w);
-        if same(numbers, at, &part) {
-            lines[i] = w;
-        } else {
-            return false;
-        }
-        at += 5;
-        i += 1;
-    }
-    true
+    set_each(
+        lines,
+        |i| -> u64
+            requires { from + i * 5 + 5 ≤ length numbers.now }
+            ensures { code.Packs code.cache_line code.LineHolds cached.word_of (code.part numbers.entry.now (from + i * 5) 5) result }
+        { line_word(row_at(numbers, from + i * 5)) },
+    );
+    same_rows(
+        numbers,
+        from,
+        5,
+        lines.len(),
+        |i| -> [u32; 5]
+            requires { i < length lines.now }
+            ensures { result ≡ (code.cache_line).numbers (line_of (get_or lines.entry.now i 0)) }
+        { line_numbers(lines[i]) },
+    )
 }
 
 // The word of a buffer entry.
@@ -246,10 +217,8 @@ fn slot_bytes(numbers: &[u32], at: usize) -> [u8; 16]
     ensures { result ≡ code.low_bytes numbers.now at }
 {
     let mut out = [0u8; 16];
-    let mut i: usize = 0;
-    while i < 16 {
+    for i in 0..16 {
         out[i] = (numbers[at + i] % 0x100) as u8;
-        i += 1;
     }
     out
 }
@@ -261,22 +230,30 @@ pub fn read_slots(numbers: &[u32], from: usize, words: &mut [u64], bytes: &mut [
     ensures { code.ThingsRead code.buffer_line code.SlotHolds empty_slot (length words.old) (drop from numbers.now)
         (slots_of words.new bytes.new) result }
 {
-    let mut at = from;
-    let mut i: usize = 0;
-    while i < words.len() {
-        let b = slot_bytes(numbers, at);
-        let w = slot_word(numbers[at + 16], numbers[at + 17]);
-        let part = slot_numbers(w, b);
-        if same(numbers, at, &part) {
-            words[i] = w;
-            bytes[i] = b;
-        } else {
-            return false;
-        }
-        at += 18;
-        i += 1;
-    }
-    true
+    set_each(
+        words,
+        |i| -> u64
+            requires { from + i * 18 + 18 ≤ length numbers.now }
+            ensures { result ≡ buffered.word_of (get_or numbers.entry.now (from + i * 18 + 17) 0) (get_or numbers.entry.now (from + i * 18 + 16) 0) }
+        { slot_word(numbers[from + i * 18 + 16], numbers[from + i * 18 + 17]) },
+    );
+    set_each(
+        bytes,
+        |i| -> [u8; 16]
+            requires { from + i * 18 + 18 ≤ length numbers.now }
+            ensures { result ≡ code.low_bytes numbers.entry.now (from + i * 18) }
+        { slot_bytes(numbers, from + i * 18) },
+    );
+    same_rows(
+        numbers,
+        from,
+        18,
+        words.len(),
+        |i| -> [u32; 18]
+            requires { (i < length words.now) × (i < length bytes.now) }
+            ensures { result ≡ (code.buffer_line).numbers (slot_of (get_or words.entry.now i 0) (get_or bytes.entry.now i (replicate 16 0))) }
+        { slot_numbers(words[i], bytes[i]) },
+    )
 }
 
 // The numbers of the first line, laid at the front of a list.
@@ -354,11 +331,7 @@ fn read_head(numbers: &[u32], pointers: &mut [u32]) -> Head
     ensures { (code.head_of result pointers.new ≡ (code.head_line).thing (code.part numbers.now 0 29))
         × ((code.head_line).fits (code.part numbers.now 0 29) ≡ true) }
 {
-    let mut i: usize = 0;
-    while i < 16 {
-        pointers[i] = numbers[7 + i];
-        i += 1;
-    }
+    pointers.copy_from_slice(&numbers[7..23]);
     let registers = values::registers_of(
         numbers[0], numbers[1], numbers[2], numbers[3], numbers[4],
     );
@@ -378,14 +351,8 @@ fn read_head(numbers: &[u32], pointers: &mut [u32]) -> Head
     }
 }
 
-// What the numbers of the first line are of; `fits` is false only where a number does not fit, or an entry or a line is not as in a sound state.
-#[derive(Clone, Copy)]
-pub struct Restored {
-    pub head: Head,
-    pub fits: bool,
-}
-
-// The state and the record of numbers.
+// The state and the record of numbers: what is no list, with the lists beside it; none only where a number does not fit, or an entry or a line is not as in a
+// sound state.
 pub fn read_all(
     numbers: &[u32],
     entries: &mut [u64],
@@ -393,17 +360,17 @@ pub fn read_all(
     pointers: &mut [u32],
     words: &mut [u64],
     bytes: &mut [[u8; 16]],
-) -> Restored
+) -> Option<Head>
     requires { (length numbers.now ≡ 3085) × code.Lengths entries.old lines.old pointers.old words.old bytes.old }
-    ensures { code.AllRead numbers.now (code.saved_by result.head entries.new lines.new pointers.new
-        words.new bytes.new) result.fits }
+    ensures { MatchOption result (code.Unfit numbers.now)
+        (λ h. code.AllRead numbers.now (code.saved_by h entries.new lines.new pointers.new words.new bytes.new)) }
 {
     let head = read_head(numbers, pointers);
-    if read_entries(numbers, 29, entries) {
-        if read_lines(numbers, 381, lines) {
-            let fits = read_slots(numbers, 2941, words, bytes);
-            return Restored { head, fits };
-        }
+    if read_entries(numbers, 29, entries)
+        && read_lines(numbers, 381, lines)
+        && read_slots(numbers, 2941, words, bytes)
+    {
+        return Some(head);
     }
-    Restored { head, fits: false }
+    None
 }

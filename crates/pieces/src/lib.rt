@@ -1,7 +1,7 @@
 // Bytes of a text and of what is printed: searched, copied, put behind others.
 #![tactic(auto)]
 
-ghost use Rattle.std.specs.Prelude.{◌≡◌, ◌++◌, ◌+◌, ◌-◌, ◌≤◌, min, length, take, drop};
+ghost use Rattle.std.specs.Prelude.{◌≡◌, ◌++◌, ◌+◌, ◌-◌, ◌≤◌, length, take, drop, position};
 ghost use Rattle.values.specs.Lists.{any};
 ghost use Rattle.pieces.specs.Pieces as spec;
 
@@ -10,14 +10,7 @@ pub fn has_feed(bytes: &[u8], n: usize) -> bool
     requires { n ≤ length bytes.now }
     ensures { result ≡ any spec.is_feed (take n bytes.now) }
 {
-    let mut i: usize = 0;
-    while i < n {
-        if bytes[i] == 10 {
-            return true;
-        }
-        i += 1;
-    }
-    false
+    bytes[..n].contains(&b'\n')
 }
 
 // The bytes of a list from a place up to another, in a list of 64.
@@ -26,11 +19,7 @@ pub fn padded(bytes: &[u8], from: usize, end: usize) -> [u8; 64]
     ensures { result ≡ spec.padded (take (end - from) (drop from bytes.now)) }
 {
     let mut out = [0u8; 64];
-    let mut i: usize = 0;
-    while i < end - from {
-        out[i] = bytes[from + i];
-        i += 1;
-    }
+    out[..end - from].copy_from_slice(&bytes[from..end]);
     out
 }
 
@@ -39,18 +28,14 @@ pub fn copy(bytes: &[u8], n: usize, out: &mut [u8])
     requires { (n ≤ length bytes.now) × (n ≤ length out.old) }
     ensures { out.new ≡ take n bytes.now ++ drop n out.old }
 {
-    let mut i: usize = 0;
-    while i < n {
-        out[i] = bytes[i];
-        i += 1;
-    }
+    out[..n].copy_from_slice(&bytes[..n]);
 }
 
-// The smaller of two numbers.
-pub fn least(a: usize, b: usize) -> usize
-    ensures { result ≡ min a b }
+// Where the first line feed stands.
+fn first_feed(bytes: &[u8]) -> Option<usize>
+    ensures { result ≡ position spec.is_feed bytes.now }
 {
-    if a < b { a } else { b }
+    bytes.iter().position(|b| *b == b'\n')
 }
 
 // Puts the bytes of a text, through its first line feed, behind a line begun, up to 64 bytes: how many.
@@ -59,17 +44,11 @@ pub fn join(line: &mut [u8], held: usize, text: &[u8]) -> usize
     ensures { (take (held + result) line.new ≡ take held line.old ++ spec.onto (64 - held) text.now)
         × (result ≡ length (spec.onto (64 - held) text.now)) × (held + result ≤ 64) × (result ≤ length text.now) }
 {
-    let mut i: usize = 0;
-    while held + i < 64 {
-        if i == text.len() {
-            return i;
-        }
-        let b = text[i];
-        line[held + i] = b;
-        i += 1;
-        if b == 10 {
-            return i;
-        }
-    }
-    i
+    let most = text.len().min(64 - held);
+    let size = match first_feed(&text[..most]) {
+        Some(i) => i + 1,
+        None => most,
+    };
+    line[held..held + size].copy_from_slice(&text[..size]);
+    size
 }

@@ -1,7 +1,8 @@
 -- The cases of the plain machine's step, and what each keeps.
+use Rattle.std.specs.Prelude.{Result, Ok, Err}
 use Prim.Native.Nat.{ℕ, ◌+◌, ◌≤◌}
 use native.Mathlib.Omega.{arith}
-use mathlib.Core.Bool.{true, false}
+use mathlib.Core.Bool.{Bool, true, false, not}
 use mathlib.Core.Path.{◌≡◌, refl, sym, ◌∙◌, ap, subst}
 use mathlib.Core.List.{List, [], ◌∷◌}
 use mathlib.Core.Logic.{⊎_elim}
@@ -9,9 +10,8 @@ use lib.Dec.{eqb}
 use lib.ListN.{length}
 use denote.Enum.Declared.{tag_of}
 use types.Run.{OneOf}
-use borrow.Author.Tests.{eq-eqb, ne_eqb}
+use borrow.Author.Tests.{ne_eqb}
 use Rattle.values.specs.Control.{kept}
-use Rattle.values.specs.Counts.{count_limit}
 use Rattle.values.specs.Kinds.{is_store}
 use Rattle.values.specs.declared.VirtualAddress.{VirtualAddress}
 use Rattle.values.specs.declared.Registers.{Registers}
@@ -34,16 +34,16 @@ use Rattle.translation.specs.declared.Decision.{Decision}
 use Rattle.translation.specs.declared.Translation.{Translation}
 use Rattle.translation.specs.declared.Translation.TheVariants.{Flat}
 use Rattle.translation.specs.declared.Place.{Place}
-use Rattle.translation.specs.declared.Checked.{Checked}
-use Rattle.translation.specs.declared.Checked.TheVariants.{Passed, Denied}
 use Rattle.translation.proofs.Laws.{in_word}
 use Rattle.registers.specs.Registers.{written_of}
-use Rattle.refusals.specs.Refusals.{refusal_in, map_fits, row5, row16, call_rows, call_refusal}
-use Rattle.refusals.proofs.Rows.{row_met, row_unmet}
+use Rattle.refusals.specs.Refusals.{refuses, refusal_in, map_fits, row5, call_rows, call_refusal}
+use Rattle.refusals.proofs.Rows.{row_passed}
 use Rattle.plain.specs.Plain.{Plain, PlainStepped, plain_stepped, plain_physical, plain_faulted, plain_reach, plain_loaded, plain_load_aborts, plain_load}
 use Rattle.plain.specs.Plain.{plain_store, plain_swap, plain_written, plain_passed, plain_at, plain_access}
 use Rattle.plain.specs.Plain.{plain_write, plain_done, plain_by, plainly, plain_refusal, counted}
 use Rattle.plain.specs.Code.{Kept, Steps, Inside}
+use Rattle.values.specs.declared.Cause.{Cause}
+use Rattle.values.specs.Causes.{cause_from}
 
 -- ---- loads, stores and swaps that pass
 
@@ -128,8 +128,8 @@ inside_fits memory a l i =
 
 -- ---- by what alignment, translation and rights give
 
-module _ (r : Registers) (a : Access) (t : Translation) where
-  decided_misaligned : alignment_faults r a ≡ true → decided r a t ≡ decision_from Flat (Denied Alignment 0)
+module _ (r : Registers) (a : Access) (t : Result Translation Cause) where
+  decided_misaligned : alignment_faults r a ≡ true → decided r a t ≡ decision_from (Ok Flat) (Err (cause_from Alignment 0))
   unfolding decided
   decided_misaligned h = rw h
 
@@ -138,10 +138,10 @@ module _ (r : Registers) (a : Access) (t : Translation) where
   decided_aligned h = rw h
 
 module _ (p : Plain) (a : Access) where
-  abbrev walked : Translation
+  abbrev walked : Result Translation Cause
   walked = walked_only p.registers (plain_physical p) (cleared a)
 
-  pub reach_misaligned : alignment_faults p.registers a ≡ true → plain_reach p a ≡ Denied Alignment 0
+  pub reach_misaligned : alignment_faults p.registers a ≡ true → plain_reach p a ≡ Err (cause_from Alignment 0)
   unfolding plain_reach
   reach_misaligned h = ap (λ (d : Decision). d.checked) (decided_misaligned p.registers a walked h)
 
@@ -150,15 +150,15 @@ module _ (p : Plain) (a : Access) where
   unfolding plain_reach
   reach_aligned h = ap (λ (d : Decision). d.checked) (decided_aligned p.registers a walked h)
 
-  pub access_by : (c : Checked) → plain_reach p a ≡ c → plain_access p a ≡ plain_at p a c
+  pub access_by : (c : Result Place Cause) → plain_reach p a ≡ c → plain_access p a ≡ plain_at p a c
   unfolding plain_access
   access_by c e = ap (plain_at p a) e
 
-  pub at_passed : (l : Place) → plain_at p a (Passed l) ≡ plain_passed p a l a.kind
+  pub at_passed : (l : Place) → plain_at p a (Ok l) ≡ plain_passed p a l a.kind
   unfolding plain_at
   at_passed l = refl
 
-  pub at_denied : (s : Status) (d : ℕ) → plain_at p a (Denied s d) ≡ plain_faulted p s d a.address
+  pub at_denied : (s : Status) (d : ℕ) → plain_at p a (Err (cause_from s d)) ≡ plain_faulted p s d a.address
   unfolding plain_at
   at_denied s d = refl
 
@@ -184,32 +184,23 @@ module _ (p : Plain) (k : Kept p.registers) where
 
 -- ---- one call
 
-module _ (p : Plain) (c : Call) where
-  by_refusal : (n : ℕ) → plain_refusal p c ≡ n → plainly p c ≡ plain_by p c n
-  unfolding plainly
-  by_refusal n e = ap (plain_by p c) e
+-- a call that is not refused is not refused by itself
+pub accepted : (fits : Bool) (calls : ℕ) (c : Call) → 0 ≡ refusal_in (refuses 16 (not fits) ∷ row5 calls ∷ call_rows c) → call_refusal c ≡ 0
+accepted fits calls c h =
+    let k = row_passed (refuses 16 (not fits)) (row5 calls ∷ call_rows c) (omega arith) (sym h) in
+    (row_passed (row5 calls) (call_rows c) (omega arith) k.1).1
 
-  pub refused_map : map_fits (length p.memory) p.bad ≡ false → plainly p c ≡ plain_stepped p (answer.Refused 16)
-  unfolding plain_refusal
-  refused_map m = by_refusal 16 (row_met (row16 (length p.memory) p.bad) (row5 p.calls ∷ call_rows c) (rw m))
+module _ (p : Plain) (c : Call) (n : ℕ) (fits : Bool) (m : fits ≡ map_fits (length p.memory) p.bad)
+    (e : n ≡ refusal_in (refuses 16 (not fits) ∷ row5 p.calls ∷ call_rows c)) where
+  by_refusal : plainly p c ≡ plain_by p c n
+  unfolding plainly plain_refusal
+  by_refusal = rw (← m, e)
 
-  module _ (m : map_fits (length p.memory) p.bad ≡ true) where
-    map_passed : plain_refusal p c ≡ refusal_in (row5 p.calls ∷ call_rows c)
-    unfolding plain_refusal
-    map_passed = row_unmet (row16 (length p.memory) p.bad) (row5 p.calls ∷ call_rows c) (rw m)
+  pub refused : (n ≡ 0 → ⊥) → plainly p c ≡ plain_stepped p (answer.Refused n)
+  refused z = by_refusal ∙ rw (ne_eqb n 0 z)
 
-    pub refused_five : p.calls ≡ count_limit → plainly p c ≡ plain_stepped p (answer.Refused 5)
-    refused_five e = by_refusal 5 (map_passed ∙ row_met (row5 p.calls) (call_rows c) (eq-eqb p.calls count_limit e))
-
-    module _ (e : p.calls ≡ count_limit → ⊥) where
-      call_refused : plain_refusal p c ≡ call_refusal c
-      call_refused = map_passed ∙ row_unmet (row5 p.calls) (call_rows c) (ne_eqb p.calls count_limit e)
-
-      pub refused_by_lem : (n : ℕ) → n ≡ call_refusal c → (n ≡ 0 → ⊥) → plainly p c ≡ plain_stepped p (answer.Refused n)
-      refused_by_lem n f z = by_refusal n (call_refused ∙ sym f) ∙ rw (ne_eqb n 0 z)
-
-      pub not_refused : call_refusal c ≡ 0 → plainly p c ≡ plain_done (counted p) c
-      not_refused f = by_refusal 0 (call_refused ∙ f)
+  pub not_refused : n ≡ 0 → plainly p c ≡ plain_done (counted p) c
+  not_refused z = by_refusal ∙ rw z
 
 -- ---- steps
 

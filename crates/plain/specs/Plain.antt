@@ -1,5 +1,5 @@
 -- "The plain machine gets the start's memory and each call's arguments, no answers." It has no TLB, cache or buffer.
-use Rattle.std.specs.Prelude.{ℕ, ◌+◌, Bool, cond, List, ◌∷◌, eqb, length}
+use Rattle.std.specs.Prelude.{ℕ, ◌+◌, Bool, cond, List, ◌∷◌, eqb, length, Result, Ok, Err}
 use Rattle.values.specs.Registers.{zero_registers}
 use Rattle.values.specs.declared.VirtualAddress.{VirtualAddress}
 use Rattle.values.specs.declared.Registers.{Registers}
@@ -21,11 +21,10 @@ use Rattle.translation.specs.Alignment.{cleared}
 use Rattle.translation.specs.Translation.{walked_only, decided}
 use Rattle.translation.specs.Faults.{fills, buffers, fill_status, other_status, fault_set}
 use Rattle.translation.specs.declared.Place.{Place}
-use Rattle.translation.specs.declared.Checked.{Checked}
-use Rattle.translation.specs.declared.Checked.TheVariants.{Passed, Denied}
 use Rattle.refusals.specs.Refusals.{refusal_in, row5, row16, call_rows}
 use Rattle.registers.specs.Registers.{read_of, written_of}
 use Rattle.trace.specs.Fold.{answers_of, final_of}
+use Rattle.values.specs.declared.Cause.{Cause}
 
 -- "It holds memory, and the five registers and a count of calls"; document 02, Five: it "reads the same map", which no call changes
 pub record Plain : Type 0 where
@@ -67,7 +66,7 @@ abbrev pub plain_physical : Plain → Physical
 plain_physical p = physical p.memory p.bad
 
 -- "An access checks alignment and then, if M is set, walks its memory and checks rights, as above; else the address is flat."
-unfoldable pub plain_reach : Plain → Access → Checked
+unfoldable pub plain_reach : Plain → Access → Result Place Cause
 plain_reach p a = (decided p.registers a (walked_only p.registers (plain_physical p) (cleared a))).checked
 
 -- what a load answers, and a swap: the value in memory
@@ -112,9 +111,9 @@ plain_passed p a l SignedLoad = plain_load p a l
 plain_passed p a l (Store v) = plain_store p a v l
 plain_passed p a l (Swap v) = plain_swap p a v l
 
-unfoldable pub plain_at : Plain → Access → Checked → PlainStepped
-plain_at p a (Denied s d) = plain_faulted p s d a.address
-plain_at p a (Passed l) = plain_passed p a l a.kind
+unfoldable pub plain_at : Plain → Access → Result Place Cause → PlainStepped
+plain_at p a (Err why) = plain_faulted p why.status why.domain a.address
+plain_at p a (Ok l) = plain_passed p a l a.kind
 
 -- an access, a CP15 read and a CP15 write; "CP15 calls act on its registers as above; writes to 7 and 8 do nothing."
 unfoldable pub plain_access : Plain → Access → PlainStepped

@@ -1,21 +1,24 @@
 // The plain machine: no TLB, no Dcache, no write buffer.
 #![tactic(auto)]
 
-ghost use Rattle.std.specs.Prelude.{◌≡◌, true, List, ℕ, ◌<◌, length};
+ghost use Rattle.std.specs.Prelude.{◌≡◌, true, not, ◌∷◌, List, ℕ, ◌<◌, length, OnOk};
 ghost use Rattle.rights.specs.Rights.{rights_table};
 ghost use Rattle.words.specs.Words.{is_width, value_at};
 ghost use Rattle.words.specs.Signed.{load_answer};
 ghost use Rattle.translation.specs.Ranges.{CheckedIs};
 ghost use Rattle.translation.specs.Alignment as aligned;
-ghost use Rattle.refusals.specs.Refusals.{map_fits, call_refusal};
+ghost use Rattle.values.specs.Counts.{count_limit};
+ghost use Rattle.refusals.specs.Numbers.{refusal_code};
+ghost use Rattle.refusals.specs.Refusals.{refuses, refusal_in, map_fits, row5, call_rows, call_refusal};
 ghost use Rattle.trace.specs.Fold.{calls_in, Holds};
 ghost use Rattle.plain.specs.Plain as spec;
 ghost use Rattle.plain.specs.Run as runs;
 ghost use Rattle.plain.specs.Code.{plain_of, stepped_of, plain_left, Kept, Steps, Placed, Inside};
 
-use translation::{Checked, Place};
+use refusals::Refusal;
+use translation::Place;
 use values::{
-    Access, Answer, Call, Count, Fault, Kind, Registers, Status, Transfer, VirtualAddress,
+    Access, Answer, Call, Cause, Count, Fault, Kind, Registers, Status, Transfer, VirtualAddress,
 };
 
 // The plain machine but for its memory: the five registers and the count of calls.
@@ -55,13 +58,19 @@ fn faulted(s: PlainState, status: Status, domain: u32, address: VirtualAddress) 
 }
 
 // Alignment, translation and rights.
-fn reach(table: &[u8; 256], memory: &[u8], bad: &[u8], s: PlainState, a: Access) -> Checked
+fn reach(
+    table: &[u8; 256],
+    memory: &[u8],
+    bad: &[u8],
+    s: PlainState,
+    a: Access,
+) -> Result<Place, Cause>
     requires { (table.now ≡ rights_table) × Kept s.registers × (is_width a.width ≡ true) }
     ensures { CheckedIs (aligned.cleared a) result (spec.plain_reach (plain_of memory.now bad.now s) a) }
 {
     let r = s.registers;
     if translation::faults_alignment(r, a) {
-        return Checked::Denied(Status::Alignment, 0);
+        return Err(Cause::new(Status::Alignment, 0));
     }
     let va = translation::cleared(a);
     let t = translation::walked_only(memory, bad, r, va);
@@ -178,8 +187,8 @@ fn access(table: &[u8; 256], memory: &mut [u8], bad: &[u8], s: PlainState, a: Ac
     let address = a.address;
     let c = reach(table, memory, bad, s, a);
     match c {
-        Checked::Passed(p) => passed(memory, bad, s, a, p),
-        Checked::Denied(status, d) => faulted(s, status, d, address),
+        Ok(p) => passed(memory, bad, s, a, p),
+        Err(why) => faulted(s, why.status, why.domain, address),
     }
 }
 
@@ -224,6 +233,19 @@ fn done(table: &[u8; 256], memory: &mut [u8], bad: &[u8], s: PlainState, c: Call
     }
 }
 
+// Refusals 16, 5 and 6 to 12 of a call, in this order; `fits` is whether the map fits.
+#[tactic(auto, unfolding(values::specs::Rows::first_met))]
+fn refusal(fits: bool, calls: Count, c: Call) -> Result<(), Refusal>
+    ensures number { refusal_code result ≡ refusal_in (refuses 16 (not fits) ∷ row5 calls ∷ call_rows c) }
+    ensures low { OnOk result (calls < count_limit) }
+{
+    if !fits {
+        return Err(Refusal::Map);
+    }
+    refusals::count_refusal(calls)?;
+    refusals::call_refusal(c)
+}
+
 // One call; `fits` is whether the map fits.
 fn step(
     table: &[u8; 256],
@@ -237,23 +259,10 @@ fn step(
     ensures { Steps (stepped_of memory.new bad.now result)
         (spec.plainly (plain_of memory.old bad.now s) c) }
 {
-    if !fits {
+    if let Err(r) = refusal(fits, s.calls, c) {
         return Outcome {
             state: s,
-            answer: Answer::Refused(16),
-        };
-    }
-    if s.calls == values::COUNT_LIMIT {
-        return Outcome {
-            state: s,
-            answer: Answer::Refused(5),
-        };
-    }
-    let n = refusals::call_refusal(c);
-    if n != 0 {
-        return Outcome {
-            state: s,
-            answer: Answer::Refused(n),
+            answer: Answer::Refused(u32::from(r)),
         };
     }
     let r = s.registers;
@@ -264,7 +273,7 @@ fn step(
     done(table, memory, bad, counted, c)
 }
 
-// What a run leaves beside the lent lists: the state, how many calls were made, and refusal 1 or 0.
+// What a run leaves beside the lent lists: the state, how many calls were made, and refusal 1 or 0, a number, as C reads it.
 #[derive(Clone, Copy)]
 pub struct Ran {
     pub state: PlainState,
@@ -299,8 +308,7 @@ fn run_calls(
         (runs.left_by (spec.plain_start memory.old bad.now) (calls_in n calls.now 0) answers.old) 0 }
 {
     let mut s = zero_state();
-    let mut i: usize = 0;
-    while i < n {
+    for i in 0..n {
         if !trace::is_call_at(calls, i) {
             return Ran {
                 state: s,
@@ -310,15 +318,12 @@ fn run_calls(
         }
         let c = trace::call_at(calls, i);
         let o = step(table, memory, bad, fits, s, c);
-        let a = o.answer;
-        answers[i] = trace::code(a);
-        let t = o.state;
-        s = t;
-        i += 1;
+        answers[i] = trace::code(o.answer);
+        s = o.state;
     }
     Ran {
         state: s,
-        made: i,
+        made: n,
         refusal: 0,
     }
 }
@@ -329,15 +334,15 @@ pub fn run(memory: &mut [u8], bad: &[u8], calls: &[u32], answers: &mut [u64]) ->
     ensures { plain_left memory.new bad.now answers.new result
         ≡ runs.plain_run memory.old bad.now calls.now answers.old }
 {
-    if refusals::length_fits(memory.len()) {
-        let fits = refusals::map_fits(memory.len(), bad);
-        let n = trace::calls_held(calls, answers);
-        let table = rights::table();
-        return run_calls(&table, memory, bad, calls, answers, fits, n);
+    if !refusals::length_fits(memory.len()) {
+        return Ran {
+            state: zero_state(),
+            made: 0,
+            refusal: u32::from(Refusal::Memory),
+        };
     }
-    Ran {
-        state: zero_state(),
-        made: 0,
-        refusal: 1,
-    }
+    let fits = refusals::map_fits(memory.len(), bad);
+    let n = trace::calls_held(calls, answers);
+    let table = rights::table();
+    run_calls(&table, memory, bad, calls, answers, fits, n)
 }

@@ -6,7 +6,7 @@ use mathlib.Core.Bool.{Bool, true, false, ◌&&◌}
 use mathlib.Core.Path.{◌≡◌, refl, sym, ◌∙◌, ap}
 use mathlib.Core.List.{List, [], ◌∷◌, ◌++◌}
 use lib.Dec.{eqb, ltb}
-use lib.ListN.{length, get_or, set, length-set}
+use lib.ListN.{length, get_or, set}
 use lib.Seq.{append_snoc}
 use borrow.Author.Tests.{le-leb, lt-leb}
 use Rattle.trace.specs.Codes.{kind_unit}
@@ -21,8 +21,6 @@ use Rattle.printed.proofs.Laying.{Laying, laying_start, laying_on, laying_end, o
 pub record Writing (o₀ : List ℕ) (a n : ℕ) (o : List ℕ) (i rest : ℕ) : Type 0 where
   pub low : a ≤ i
   pub high : i ≤ a + length (decimal n)
-  pub small : rest ≤ n
-  pub long : length o ≡ length o₀
   pub whole : over o a (digits_of (i - a) rest) ≡ over o₀ a (decimal n)
 
 module _ (o₀ : List ℕ) (a n : ℕ) where
@@ -31,28 +29,25 @@ module _ (o₀ : List ℕ) (a n : ℕ) where
   writing_start e h =
       let k : a + e - a ≡ length (decimal n) = omega arith in
       let w = ap (λ (l : List ℕ). over o₀ a l) (ap (λ (j : ℕ). digits_of j n) k ∙ digits_all n) in
-      record { low = omega arith; high = omega arith; small = omega arith; long = refl; whole = w }
+      record { low = omega arith; high = omega arith; whole = w }
 
   module _ (o : List ℕ) (i rest : ℕ) (w : Writing o₀ a n o i rest) where
     -- the last digit of what is left, stored before place i
-    pub writing_on : (b : ℕ) → a + length (decimal n) ≤ length o₀ → a < i → b ≡ zero_digit + (rest - rest / 10 * 10)
-        → Writing o₀ a n (set o (i - 1) b) (i - 1) (rest / 10)
+    pub writing_on : (j b : ℕ) → i ≡ j + 1 → a + length (decimal n) ≤ length o → a < i → b ≡ zero_digit + rest % 10
+        → Writing o₀ a n (set o j b) j (rest / 10)
     unfolding digits_of
-    writing_on b f h e =
+    writing_on j b q f h e =
         let high = w.high in
-        let long = w.long in
-        let small = w.small in
-        let j = i - 1 - a in
-        let d = digits_of j (rest / 10) in
-        let l : length d ≡ j = digits_long j (rest / 10) in
-        let k : i - a ≡ suc j = omega arith in
-        let g : b ≡ zero_digit + rest % 10 = omega arith in
-        let p : i - 1 ≡ a + length d = omega arith in
-        let s : over (set o (i - 1) b) a d ≡ over o a (digits_of (i - a) rest) =
-        ap (λ (x : ℕ). over (set o x b) a d) p ∙ over_last o a d b (omega arith) ∙ ap (λ (x : ℕ). over o a (d ++ x ∷ [])) g
+        let m = j - a in
+        let d = digits_of m (rest / 10) in
+        let l : length d ≡ m = digits_long m (rest / 10) in
+        let k : i - a ≡ suc m = omega arith in
+        let p : j ≡ a + length d = omega arith in
+        let s : over (set o j b) a d ≡ over o a (digits_of (i - a) rest) =
+        ap (λ (x : ℕ). over (set o x b) a d) p ∙ over_last o a d b (omega arith) ∙ ap (λ (x : ℕ). over o a (d ++ x ∷ [])) e
         ∙ ap (λ (x : ℕ). over o a (digits_of x rest)) (sym k)
         in
-        record { low = omega arith; high = omega arith; small = omega arith; long = length-set o (i - 1) b ∙ long; whole = s ∙ w.whole }
+        record { low = omega arith; high = omega arith; whole = s ∙ w.whole }
 
     -- none is left: the number is laid
     pub writing_end : (e : ℕ) → e ≡ length (decimal n) → e ≤ 19 → i ≤ a → Laid o₀ o a (a + e) 19 (decimal n)

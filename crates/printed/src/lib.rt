@@ -1,7 +1,7 @@
 // Answers printed as lines of text: line number, kind, value.
 #![tactic(auto)]
 
-ghost use Rattle.std.specs.Prelude.{◌&&◌, [], ◌∷◌, ◌≡◌, ℕ, ◌+◌, ◌*◌, ◌≤◌, ◌<◌, ltb, length, get_or};
+ghost use Rattle.std.specs.Prelude.{[], ◌∷◌, ◌≡◌, ℕ, ◌+◌, ◌*◌, ◌≤◌, ◌<◌, length, get_or};
 ghost use Rattle.printed.specs.Printed.{decimal};
 ghost use Rattle.printed.specs.Code as spec;
 
@@ -13,13 +13,10 @@ pub fn digits(n: u64) -> usize
     requires { n < 10000000000000000000 }
     ensures { (result ≡ length (decimal n)) × (result ≤ 19) }
 {
-    let mut k: usize = 1;
-    let mut power: u64 = 10;
-    while n >= power {
-        power *= 10;
-        k += 1;
+    match n.checked_ilog10() {
+        Some(k) => k as usize + 1,
+        None => 1,
     }
-    k
 }
 
 // A number in decimal digits, laid from a place on; the place behind them.
@@ -28,18 +25,15 @@ pub fn put_number(out: &mut [u8], at: usize, n: u64) -> usize
     ensures { spec.Laid out.old out.new at result 19 (decimal n) }
 {
     let end = at + digits(n);
-    let mut i = end;
     let mut rest = n;
-    while i > at {
-        i -= 1;
-        let next = rest / 10;
-        out[i] = 48 + (rest - next * 10) as u8;
-        rest = next;
+    for i in (at..end).rev() {
+        out[i] = b'0' + (rest % 10) as u8;
+        rest /= 10;
     }
     end
 }
 
-// A byte laid at a place; the place behind it.
+// A byte laid at a place; the place behind it. The place is passed on by value: a cursor's methods would each state the same of list and place.
 pub fn put_byte(out: &mut [u8], at: usize, b: u8) -> usize
     requires { at < length out.old }
     ensures { spec.Laid out.old out.new at result 1 (b ∷ []) }
@@ -53,23 +47,11 @@ fn put_value(out: &mut [u8], at: usize, value: u64, signed: bool) -> usize
     requires { (value < 0x100000000) × (at + 11 ≤ length out.old) }
     ensures { spec.Laid out.old out.new at result 11 (spec.value_text signed value) }
 {
-    if signed {
-        if value >= 0x80000000 {
-            let b = put_byte(out, at, 45);
-            return put_number(out, b, 0x100000000 - value);
-        }
+    if signed && value >= 0x80000000 {
+        let b = put_byte(out, at, b'-');
+        return put_number(out, b, 0x100000000 - value);
     }
     put_number(out, at, value)
-}
-
-// Whether a code's value has a sign: a served answer to a signed load.
-fn has_sign(signed: bool, code: u64) -> bool
-    ensures { result ≡ (signed && ltb code 0x100000000) }
-{
-    if signed {
-        return code < 0x100000000;
-    }
-    false
 }
 
 // The line of a code.
@@ -79,12 +61,13 @@ pub fn put_line(out: &mut [u8], at: usize, line: u64, code: u64, signed: bool) -
 {
     let kind = code / 0x100000000;
     let value = code % 0x100000000;
+    let sign = signed && code < 0x100000000; // a served answer to a signed load
     let a = put_number(out, at, line);
-    let b = put_byte(out, a, 44);
-    let c = put_byte(out, b, 48 + kind as u8);
-    let d = put_byte(out, c, 44);
-    let e = put_value(out, d, value, has_sign(signed, code));
-    put_byte(out, e, 10)
+    let b = put_byte(out, a, b',');
+    let c = put_byte(out, b, b'0' + kind as u8);
+    let d = put_byte(out, c, b',');
+    let e = put_value(out, d, value, sign);
+    put_byte(out, e, b'\n')
 }
 
 // The lines of the first n codes of a list, numbered from `first` on; how many bytes they have.
@@ -95,12 +78,9 @@ pub fn print(calls: &[u32], answers: &[u64], n: usize, first: u64, out: &mut [u8
         (spec.code_lines n first calls.now answers.now 0) }
 {
     let mut at: usize = 0;
-    let mut k: usize = 0;
-    while k < n {
-        let code = answers[k];
+    for k in 0..n {
         let signed = calls[k * 5] == 1;
-        at = put_line(out, at, first + k as u64, code, signed);
-        k += 1;
+        at = put_line(out, at, first + k as u64, answers[k], signed);
     }
     at
 }

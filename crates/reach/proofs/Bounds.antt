@@ -1,4 +1,5 @@
 -- Where an access lies: in one block of sixteen bytes, so in one line; and which lines a search finds.
+use Rattle.std.specs.Prelude.{Some}
 use Prim.Native.Nat.{ℕ, ◌+◌, ◌%◌, ◌<◌, ◌≤◌}
 use native.Mathlib.Omega.{arith}
 use mathlib.Core.Bool.{true, false}
@@ -7,7 +8,6 @@ use mathlib.Core.List.{List}
 use lib.ListN.{length}
 use Rattle.values.specs.declared.Access.{Access}
 use Rattle.values.specs.declared.VirtualAddress.{VirtualAddress}
-use Rattle.values.specs.declared.Search.TheVariants.{At}
 use Rattle.cache.specs.Dcache.{find}
 use Rattle.cache.specs.Packing.{lines_of}
 use Rattle.cache.proofs.Finds.{found}
@@ -34,5 +34,5 @@ lies_inside memory words bytes used a p k bad h =
     access_fits a p.address.0 (length memory) k.width k.place.within (omega (arith, i)) k.whole
 
 -- the line that a search finds is one of the 512
-pub find_low : (ws : List ℕ) (va : VirtualAddress) (i : ℕ) → length ws ≡ 512 → find (lines_of ws) va ≡ At i → i < 512
+pub find_low : (ws : List ℕ) (va : VirtualAddress) (i : ℕ) → length ws ≡ 512 → find (lines_of ws) va ≡ Some i → i < 512
 find_low ws va i n e = let f = found (lines_of ws) va i e in f.low

@@ -1,4 +1,5 @@
 -- Which mapping serves, by cases; the machine once TLB and misses have changed; faults.
+use Rattle.std.specs.Prelude.{Some, None, Err, Result, Ok}
 use Prim.Native.Nat.{ℕ, ◌+◌, ◌<◌}
 use native.Mathlib.Omega.{arith}
 use mathlib.Core.Bool.{true, false}
@@ -13,7 +14,6 @@ use Rattle.values.specs.declared.Status.{Status}
 use Rattle.values.specs.declared.VirtualAddress.{VirtualAddress}
 use Rattle.values.specs.declared.Access.{Access}
 use Rattle.values.specs.declared.Answer.TheVariants as answer
-use Rattle.values.specs.declared.Search.TheVariants.{At, Nothing}
 use Rattle.values.specs.Counts.{missed}
 use Rattle.values.proofs.Searches.{matched}
 use Rattle.bus.specs.Physical.{Physical}
@@ -25,8 +25,7 @@ use Rattle.translation.specs.Alignment.{alignment_faults}
 use Rattle.translation.specs.Faults.{fault_set}
 use Rattle.translation.specs.Translation.{translation, of_walk, decided, decision_from, checked}
 use Rattle.translation.specs.declared.Translation.{Translation}
-use Rattle.translation.specs.declared.Translation.TheVariants.{Flat, Held, Walked, Failed}
-use Rattle.translation.specs.declared.Checked.TheVariants.{Denied}
+use Rattle.translation.specs.declared.Translation.TheVariants.{Flat, Held, Walked}
 use Rattle.values.specs.declared.Status.TheVariants.{Alignment}
 use Rattle.machine.specs.Lists.{Lists, machine_of, stepped_of}
 use Rattle.machine.specs.Scalars.{with_counts, with_pointer, with_registers, outcome_from}
@@ -34,12 +33,14 @@ use Rattle.machine.specs.Ready.{SideReady}
 use Rattle.machine.specs.declared.Scalars.{Scalars}
 use Rattle.reach.specs.Reach.{committed, faulted}
 use Rattle.reach.specs.Code.{Stay}
+use Rattle.values.specs.Causes.{cause_from}
+use Rattle.values.specs.declared.Cause.{Cause}
 
 -- ---- which mapping serves
 
 module _ (ws : List ℕ) (va : VirtualAddress) where
   -- the place that a lookup finds is one of the TLB's
-  pub lookup_low : (i : ℕ) → length ws ≡ 32 → lookup (entries_of ws) va ≡ At i → i < 32
+  pub lookup_low : (i : ℕ) → length ws ≡ 32 → lookup (entries_of ws) va ≡ Some i → i < 32
   unfolding lookup
   lookup_low i n e =
       let m : length (entries_of ws) ≡ 32 = length-map ws entry_of ∙ n in
@@ -47,24 +48,24 @@ module _ (ws : List ℕ) (va : VirtualAddress) where
       omega arith
 
   module _ (r : Registers) (memory : Physical) where
-    pub held : (i : ℕ) (e : Entry) → mmu r ≡ true → At i ≡ lookup (entries_of ws) va → e ≡ entry_of (get_or ws i 0)
-        → Held e ≡ translation (entries_of ws) r memory va
+    pub held : (i : ℕ) (e : Entry) → mmu r ≡ true → Some i ≡ lookup (entries_of ws) va → e ≡ entry_of (get_or ws i 0)
+        → Ok (Held e) ≡ translation (entries_of ws) r memory va
     unfolding translation
     held i e m f g = rw (m, ← f, entry_at ws i, ← g)
 
-    pub walked : (t : Translation) → mmu r ≡ true → Nothing ≡ lookup (entries_of ws) va → t ≡ of_walk (walk memory r.base va)
+    pub walked : (t : Result Translation Cause) → mmu r ≡ true → None ≡ lookup (entries_of ws) va → t ≡ of_walk (walk memory r.base va)
         → t ≡ translation (entries_of ws) r memory va
     unfolding translation
     walked t m f g = rw (m, ← f) g
 
-    pub not_mapped : mmu r ≡ false → Flat ≡ translation (entries_of ws) r memory va
+    pub not_mapped : mmu r ≡ false → Ok Flat ≡ translation (entries_of ws) r memory va
     unfolding translation
     not_mapped m = rw m
 
 -- ---- what is decided
 
-module _ (r : Registers) (a : Access) (t : Translation) where
-  pub decided_unaligned : alignment_faults r a ≡ true → decided r a t ≡ decision_from Flat (Denied Alignment 0)
+module _ (r : Registers) (a : Access) (t : Result Translation Cause) where
+  pub decided_unaligned : alignment_faults r a ≡ true → decided r a t ≡ decision_from (Ok Flat) (Err (cause_from Alignment 0))
   unfolding decided
   decided_unaligned h = rw h
 
@@ -75,22 +76,22 @@ module _ (r : Registers) (a : Access) (t : Translation) where
 -- ---- the change of TLB and misses
 
 module _ (l : Lists) (es : List ℕ) (s : Scalars) (n : ℕ) where
-  pub commit_flat : machine_of l es s n ≡ committed (machine_of l es s n) Flat
+  pub commit_flat : machine_of l es s n ≡ committed (machine_of l es s n) (Ok Flat)
   unfolding committed
   commit_flat = refl
 
-  pub commit_held : (e : Entry) → machine_of l es s n ≡ committed (machine_of l es s n) (Held e)
+  pub commit_held : (e : Entry) → machine_of l es s n ≡ committed (machine_of l es s n) (Ok (Held e))
   unfolding committed
   commit_held e = refl
 
-  pub commit_failed : (x : Status) (d : ℕ) (r : Scalars) → r ≡ with_counts s (missed s.counts)
-      → machine_of l es r n ≡ committed (machine_of l es s n) (Failed x d)
+  pub commit_failed : (why : Cause) (r : Scalars) → r ≡ with_counts s (missed s.counts)
+      → machine_of l es r n ≡ committed (machine_of l es s n) (Err why)
   unfolding committed
-  commit_failed x d r h = rw h
+  commit_failed why r h = rw h
 
   pub commit_walked : (e : Entry) (fs : List ℕ) (p : ℕ) (q r : Scalars) → entries_of fs ≡ placed (entries_of es) s.cp15.pointer e
       → p ≡ stepped s.cp15.pointer → q ≡ with_pointer s p → r ≡ with_counts q (missed q.counts)
-      → machine_of l fs r n ≡ committed (machine_of l es s n) (Walked e)
+      → machine_of l fs r n ≡ committed (machine_of l es s n) (Ok (Walked e))
   unfolding committed
   commit_walked e fs p q r f g h k = rw (k, h, g, f)
 

@@ -1,5 +1,5 @@
 -- "An access, step by step": alignment, translation and rights are decided, and then the TLB and the misses change.
-use Rattle.std.specs.Prelude.{ℕ}
+use Rattle.std.specs.Prelude.{ℕ, Result}
 use Rattle.values.specs.Registers.{with_pointer_of}
 use Rattle.values.specs.declared.VirtualAddress.{VirtualAddress}
 use Rattle.values.specs.declared.Access.{Access}
@@ -12,13 +12,14 @@ use Rattle.translation.specs.Faults.{fault_set}
 use Rattle.translation.specs.declared.Translation.{Translation}
 use Rattle.translation.specs.declared.Decision.{Decision}
 use Rattle.machine.specs.Machine.{Machine, physical_of, with_cp15, with_registers, with_entries, with_counts, Stepped, stepped_from}
+use Rattle.values.specs.declared.Cause.{Cause}
 
 -- which mapping serves, from TLB or walk, and whether alignment, translation and rights pass: nothing changes
 unfoldable pub decision : Machine → Access → Decision
 decision m a = let r = m.cp15.registers in decided r a (translation m.entries r (physical_of m) (cleared a))
 
 -- the machine once TLB and misses have changed
-unfoldable pub committed : Machine → Translation → Machine
+unfoldable pub committed : Machine → Result Translation Cause → Machine
 committed m t =
     let pointer = m.cp15.pointer in
     with_counts (with_entries (with_cp15 m (with_pointer_of m.cp15 (pointer_after pointer t))) (entries_after m.entries pointer t))

@@ -16,8 +16,8 @@ ghost use Rattle.reach.specs.Reach as spec;
 ghost use Rattle.reach.specs.Code.{DecisionIs, Stay};
 
 use machine::{Outcome, Scalars};
-use translation::{Checked, Decision, Translation};
-use values::{Access, Answer, Fault, Registers, Search, Status, VirtualAddress};
+use translation::{Decision, Translation};
+use values::{Access, Answer, Cause, Fault, Registers, Status, VirtualAddress};
 
 // The TLB's entry that covers the address, or a walk.
 fn translate(
@@ -26,18 +26,18 @@ fn translate(
     entries: &[u64],
     r: Registers,
     va: VirtualAddress,
-) -> Translation
+) -> Result<Translation, Cause>
     requires { (length entries.now ≡ 32) × ((i : ℕ) → i < 32 → InRange (entry_of (get_or entries.now i 0))) × (r.base % 0x4000 ≡ 0) }
     ensures { Is result (mapped.translation (entries_of entries.now) r (physical memory.now bad.now) va) }
 {
     if values::mmu(r) {
         let found = tlb::lookup(entries, va);
         match found {
-            Search::At(i) => Translation::Held(tlb::entry_of(entries[i])),
-            Search::Nothing => translation::of_walk(walk::walk(memory, bad, r.base, va)),
+            Some(i) => Ok(Translation::Held(tlb::entry_of(entries[i]))),
+            None => translation::of_walk(walk::walk(memory, bad, r.base, va)),
         }
     } else {
-        Translation::Flat
+        Ok(Translation::Flat)
     }
 }
 
@@ -58,8 +58,8 @@ pub fn decide(
 {
     if translation::faults_alignment(r, a) {
         return Decision {
-            mapping: Translation::Flat,
-            checked: Checked::Denied(Status::Alignment, 0),
+            mapping: Ok(Translation::Flat),
+            checked: Err(Cause::new(Status::Alignment, 0)),
         };
     }
     let va = translation::cleared(a);
@@ -72,20 +72,22 @@ pub fn decide(
 }
 
 // A mapping that a walk found goes to the TLB, and a walk is a miss.
-pub fn commit(entries: &mut [u64], s: Scalars, t: Translation) -> Scalars
+pub fn commit(entries: &mut [u64], s: Scalars, t: Result<Translation, Cause>) -> Scalars
     requires { TlbReady entries.old s × Ranged t }
     ensures { ((l : Lists) (size : ℕ) → machine_of l entries.new result size
         ≡ spec.committed (machine_of l entries.old s size) t) × Stay result s }
 {
     match t {
-        Translation::Flat => s,
-        Translation::Held(e) => s,
-        Translation::Walked(e) => {
-            let pointer = s.cp15.pointer;
-            tlb::place(entries, pointer, e);
-            machine::missed(machine::with_pointer(s, tlb::next(pointer)))
+        Ok(mapping) => match mapping {
+            Translation::Flat => s,
+            Translation::Held(_) => s,
+            Translation::Walked(e) => {
+                let pointer = s.cp15.pointer;
+                tlb::place(entries, pointer, e);
+                machine::missed(machine::with_pointer(s, tlb::next(pointer)))
+            },
         },
-        Translation::Failed(status, d) => machine::missed(s),
+        Err(_) => machine::missed(s),
     }
 }
 

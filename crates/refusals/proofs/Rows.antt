@@ -1,8 +1,8 @@
 -- The first row met, by cases, and what a call that is not refused meets.
 use Prim.Native.Nat.{ℕ, ◌<◌}
 use native.Mathlib.Omega.{arith}
-use mathlib.Core.Bool.{Bool, true, false, cond, not}
-use mathlib.Core.Path.{◌≡◌, refl, sym, ◌∙◌, ap}
+use mathlib.Core.Bool.{true, false, not}
+use mathlib.Core.Path.{◌≡◌, refl}
 use mathlib.Core.List.{List, [], ◌∷◌, ◌++◌}
 use lib.Dec.{eqb, ltb}
 use borrow.Author.Tests.{ltb-true, not-false}
@@ -15,10 +15,9 @@ use Rattle.values.specs.declared.Access.{Access}
 use Rattle.values.specs.declared.Transfer.{Transfer}
 use Rattle.values.specs.declared.Call.TheVariants.{Write}
 use Rattle.values.specs.declared.Call.TheVariants as calls
-use Rattle.values.specs.Kinds.{is_store, stored_value, is_swap}
-use Rattle.values.proofs.Cases.{case, and_left, and_right, clash}
-use Rattle.words.specs.Words.{is_width, fits_width}
-use Rattle.refusals.specs.Refusals.{refuses, refusal_in, row6, row7, row8, row9, row10, row11, row12, width_fits, value_fits, call_refusal}
+use Rattle.values.proofs.Cases.{case, and_left, and_right}
+use Rattle.words.specs.Words.{is_width}
+use Rattle.refusals.specs.Refusals.{refusal_in, row6, row7, row8, row9, row10, row11, row12, width_fits, value_fits, call_refusal}
 
 module _ (r : Row ℕ) (rs : List (Row ℕ)) where
   pub row_met : r.met ≡ true → refusal_in (r ∷ rs) ≡ r.gives
@@ -67,55 +66,6 @@ is_width_lem Load w h = h
 is_width_lem SignedLoad w h = h
 is_width_lem (Store v) w h = h
 is_width_lem (Swap v) w h = and_left (is_width w) (not (eqb w 2)) h
-
-pub no_width : (k : Kind) (w : ℕ) → is_width w ≡ false → width_fits w k ≡ false
-no_width Load w h = h
-no_width SignedLoad w h = h
-no_width (Store v) w h = h
-no_width (Swap v) w h = rw h
-
--- a swap has no width of 2; any other access that stores has every width
-pub swap_half : (k : Kind) (w : ℕ) → is_swap k ≡ true → w ≡ 2 → width_fits w k ≡ false
-swap_half Load w h e = clash {b = false} h refl
-swap_half SignedLoad w h e = clash {b = false} h refl
-swap_half (Store v) w h e = clash {b = false} h refl
-swap_half (Swap v) w h e = rw e
-
-pub store_width : (k : Kind) (w : ℕ) → is_width w ≡ true → is_swap k ≡ false → width_fits w k ≡ true
-store_width Load w h e = h
-store_width SignedLoad w h e = h
-store_width (Store v) w h e = h
-store_width (Swap v) w h e = clash {b = true} refl e
-
-pub other_width : (k : Kind) (w : ℕ) → is_width w ≡ true → eqb w 2 ≡ false → width_fits w k ≡ true
-other_width Load w h e = h
-other_width SignedLoad w h e = h
-other_width (Store v) w h e = h
-other_width (Swap v) w h e = rw (h, e)
-
--- the value of an access that stores
-value_fits_lem : (k : Kind) (w : ℕ) → is_store k ≡ true → value_fits w k ≡ fits_width w (stored_value k)
-value_fits_lem Load w h = clash {b = false} h refl
-value_fits_lem SignedLoad w h = clash {b = false} h refl
-value_fits_lem (Store v) w h = refl
-value_fits_lem (Swap v) w h = refl
-
--- an access that stores, and has a width of its kind, is refused by its value alone
-pub store_refused : (k : Kind) (w v : ℕ) (fits : Bool) → width_fits w k ≡ true → is_store k ≡ true → v ≡ stored_value k → fits ≡ fits_width w v
-    → refusal_in (refuses 6 (not (width_fits w k)) ∷ refuses 7 (not (value_fits w k)) ∷ []) ≡ cond fits 0 7
-unfolding first_met
-store_refused k w v fits e s q f =
-    let g : value_fits w k ≡ fits = value_fits_lem k w s ∙ ap (fits_width w) (sym q) ∙ sym f in
-    case fits (λ t. rw (e, g, t)) (λ t. rw (e, g, t))
-
--- an access that does not store is refused by its width alone
-pub no_store_refused : (k : Kind) (w : ℕ) → is_width w ≡ true → is_store k ≡ false
-    → 0 ≡ refusal_in (refuses 6 (not (width_fits w k)) ∷ refuses 7 (not (value_fits w k)) ∷ [])
-unfolding first_met
-no_store_refused Load w h e = rw h
-no_store_refused SignedLoad w h e = rw h
-no_store_refused (Store v) w h e = clash {b = true} refl e
-no_store_refused (Swap v) w h e = clash {b = true} refl e
 
 -- an access that is not refused has a width, and its value fits it
 pub access_accepted : (a : Access) → call_refusal (calls.Access a) ≡ 0 → (is_width a.width ≡ true) × (value_fits a.width a.kind ≡ true)

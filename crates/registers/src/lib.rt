@@ -9,6 +9,7 @@ ghost use Rattle.registers.specs.Registers as spec;
 use values::{Registers, Transfer};
 
 // The bits of a control write that are kept.
+#[tactic(auto, unfolding(values::specs::Control::kept))]
 pub fn kept(v: u32) -> u32
     ensures { result ≡ control.kept v }
 {
@@ -16,71 +17,46 @@ pub fn kept(v: u32) -> u32
 }
 
 // Whether a control value's M, C and W are a listed combination.
+#[tactic(auto, unfolding(values::specs::Control::listed))]
 pub fn is_listed(v: u32) -> bool
     ensures { result ≡ control.listed v }
 {
-    if v / 1 % 2 == 1 {
-        if v / 4 % 2 == 1 {
-            return v / 8 % 2 == 1;
-        }
-        return true;
-    }
-    if v / 4 % 2 == 1 {
-        return false;
-    }
-    v / 8 % 2 != 1
+    matches!(
+        (v % 2, v / 4 % 2, v / 8 % 2),
+        (0, 0, 0) | (1, 0, _) | (1, 1, 1)
+    )
 }
 
 // What a read of a register answers.
+#[tactic(auto, unfolding(crate::specs::Registers::read_of, values::specs::Control::control_read))]
 pub fn read(r: Registers, n: u32) -> u32
     requires { r.control < 0x2000 }
     ensures { result ≡ spec.read_of r n }
 {
-    if n == 0 {
-        return 0x4401A100;
+    match n {
+        0 => 0x4401A100,
+        1 => r.control + 0x70,
+        2 => r.base,
+        3 => r.domains,
+        5 => r.fsr,
+        6 => r.far,
+        _ => 0,
     }
-    if n == 1 {
-        return r.control + 0x70;
-    }
-    if n == 2 {
-        return r.base;
-    }
-    if n == 3 {
-        return r.domains;
-    }
-    if n == 5 {
-        return r.fsr;
-    }
-    if n == 6 {
-        return r.far;
-    }
-    0
 }
 
 // The registers after a write.
+#[tactic(auto, unfolding(crate::specs::Registers::written_of))]
 pub fn written(r: Registers, n: u32, v: u32) -> Registers
     ensures { result ≡ spec.written_of r n v }
 {
     let mut s = r;
-    if n == 1 {
-        s.control = kept(v);
-        return s;
-    }
-    if n == 2 {
-        s.base = v / 0x4000 * 0x4000;
-        return s;
-    }
-    if n == 3 {
-        s.domains = v;
-        return s;
-    }
-    if n == 5 {
-        s.fsr = v % 0x100;
-        return s;
-    }
-    if n == 6 {
-        s.far = v;
-        return s;
+    match n {
+        1 => s.control = kept(v),
+        2 => s.base = v / 0x4000 * 0x4000,
+        3 => s.domains = v,
+        5 => s.fsr = v % 0x100,
+        6 => s.far = v,
+        _ => {}
     }
     s
 }
@@ -89,40 +65,16 @@ pub fn written(r: Registers, n: u32, v: u32) -> Registers
 pub fn is_pair(t: Transfer, opcode: u32, crm: u32) -> bool
     ensures { result ≡ pairs.is_pair t opcode crm }
 {
-    if t.opcode == opcode {
-        return t.crm == crm;
-    }
-    false
+    t.opcode == opcode && t.crm == crm
 }
 
 // Whether the pair of a write of register 7 or 8 is listed.
 pub fn is_listed_pair(t: Transfer) -> bool
     ensures { result ≡ pairs.listed_pair t }
 {
-    if is_pair(t, 0, 7) {
-        return true;
+    match (t.opcode, t.crm) {
+        (0, 5..=7) | (1, 6) => true,
+        (1 | 4, 10) => t.register == 7,
+        _ => false,
     }
-    if is_pair(t, 0, 6) {
-        return true;
-    }
-    if is_pair(t, 0, 5) {
-        return true;
-    }
-    if is_pair(t, 1, 6) {
-        return true;
-    }
-    is_seven_pair(t)
-}
-
-// Whether the pair is one of register 7 alone.
-fn is_seven_pair(t: Transfer) -> bool
-    ensures { result ≡ pairs.seven_pair t }
-{
-    if t.register == 7 {
-        if is_pair(t, 1, 10) {
-            return true;
-        }
-        return is_pair(t, 4, 10);
-    }
-    false
 }

@@ -12,7 +12,7 @@ use borrow.Author.Tests.{eqb-true}
 use Rattle.values.proofs.Cases.{case}
 use Rattle.printed.specs.Printed.{printed}
 use Rattle.printed.specs.Code.{Laid}
-use Rattle.fields.specs.Parse.{Parsed, parse, more}
+use Rattle.fields.specs.Parse.{verdict_number, Parsed, parse, more}
 use Rattle.sa110.specs.State.{machine_in}
 use Rattle.pieces.specs.Pieces.{onto}
 use Rattle.batch.specs.Batch.{machine_after, parsed_answers}
@@ -49,15 +49,15 @@ module _ (ends : Bool) (h : Held) (k : Kept h.lines h.held h.waiting h.begun) (l
   pub one_is : (whole scratch memory bad store after : List ℕ) (taken : ℕ) (last : Bool) (b : Batch) → whole ≡ begun_line h ++ onto (64 - h.held) text
       → taken ≡ length (onto (64 - h.held) text) → last ≡ (ends && eqb taken (length text))
       → Batched h.machine last h.lines 1 whole scratch memory bad store after b
-      → (g : Held) → g ≡ settled (machine_in memory bad store b.state b.cp15) h.lines b.made b.verdict (drop b.end whole)
-      → (t : ℕ) → t ≡ cond (eqb b.verdict 0) taken (length text) → put_out g (take b.written after) out t ≡ replayed ends 1 h text out
+      → (g : Held) → g ≡ settled (machine_in memory bad store b.state b.cp15) h.lines b.made (verdict_number b.verdict) (drop b.end whole)
+      → (t : ℕ) → t ≡ cond (eqb (verdict_number b.verdict) 0) taken (length text) → put_out g (take b.written after) out t ≡ replayed ends 1 h text out
   unfolding replayed
   one_is whole scratch memory bad store after taken last b w n l B g e t u =
       let q : parse last 1 whole ≡ P =
       ap (λ (x : List ℕ). parse last 1 x) w
       ∙ ap (λ (x : Bool). parse x 1 (begun_line h ++ onto (64 - h.held) text)) (l ∙ ap (λ (x : ℕ). ends && eqb x (length text)) n) ∙ sym parsed.same
       in
-      let v : b.verdict ≡ P.verdict = B.verdict ∙ ap (λ (p : Parsed). p.verdict) q in
+      let v : verdict_number b.verdict ≡ P.verdict = B.verdict ∙ ap (λ (p : Parsed). p.verdict) q in
       let made : b.made ≡ P.made = B.made ∙ ap (λ (p : Parsed). p.made) q in
       let end : b.end ≡ P.end = B.end ∙ ap (λ (p : Parsed). p.end) q in
       let m : machine_in memory bad store b.state b.cp15 ≡ machine_after h.machine P = B.machine ∙ ap (machine_after h.machine) q in

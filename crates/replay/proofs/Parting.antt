@@ -1,5 +1,5 @@
 -- A part, by each of its cases.
-use Prim.Native.Nat.{ℕ, ◌/◌, ◌≤◌, min}
+use Prim.Native.Nat.{ℕ, ◌≤◌}
 use mathlib.Core.Bool.{Bool, true, false, ◌&&◌}
 use mathlib.Core.Path.{◌≡◌, sym}
 use mathlib.Core.List.{List}
@@ -12,12 +12,6 @@ use Rattle.replay.specs.Parts.{Held, waiting_bytes, kept, parted_from, put_out, 
 -- where lines have room
 pub roomy : (held room : ℕ) → (eqb held 0 && leb 34 room) ≡ true → (held ≡ 0) × (34 ≤ room)
 roomy held room t = (eqb-true held 0 (and_left (eqb held 0) (leb 34 room) t), leb-true 34 room (and_right (eqb held 0) (leb 34 room) t))
-
-pub at_most_many : (held room : ℕ) → (eqb held 0 && leb 34 room) ≡ true → min (room / 34) 1024 ≡ lines_at_most held room
-at_most_many held room t = sym (rw t)
-
-pub at_most_one : (held room : ℕ) → (eqb held 0 && leb 34 room) ≡ false → 1 ≡ lines_at_most held room
-at_most_one held room t = sym (rw t)
 
 module _ (ends : Bool) (h : Held) (text out : List ℕ) where
   abbrev test : Bool

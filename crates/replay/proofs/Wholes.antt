@@ -12,7 +12,7 @@ use Rattle.values.proofs.Cases.{case}
 use Rattle.machine.specs.Machine.{Machine}
 use Rattle.printed.specs.Printed.{printed}
 use Rattle.printed.specs.Code.{Laid}
-use Rattle.fields.specs.Parse.{Parsed, parse, more}
+use Rattle.fields.specs.Parse.{verdict_number, Parsed, parse, more}
 use Rattle.fields.proofs.First.{parse_within}
 use Rattle.sa110.specs.State.{machine_in}
 use Rattle.batch.specs.Batch.{machine_after, parsed_answers}
@@ -52,8 +52,8 @@ replayed_many ends n h text out e = rw e
 -- lines replayed are put out, and what is behind them held
 pub many_is : (ends : Bool) (n : ℕ) (h : Held) (text out memory bad store after : List ℕ) (b : Batch)
     → Batched h.machine ends h.lines n text out memory bad store after b → h.held ≡ 0 → n * 34 ≤ length out
-    → (g : Held) → g ≡ settled (machine_in memory bad store b.state b.cp15) h.lines b.made b.verdict (drop b.end text)
-    → (taken : ℕ) → taken ≡ cond (eqb b.verdict 0) b.end (length text) → parted_from g taken b.written after 0 ≡ replayed ends n h text out
+    → (g : Held) → g ≡ settled (machine_in memory bad store b.state b.cp15) h.lines b.made (verdict_number b.verdict) (drop b.end text)
+    → (taken : ℕ) → taken ≡ cond (eqb (verdict_number b.verdict) 0) b.end (length text) → parted_from g taken b.written after 0 ≡ replayed ends n h text out
 many_is ends n h text out memory bad store after b k z w g e taken t =
     let P : Parsed = parse ends n text in
     let bytes = printed (h.lines + 1) (parsed_answers h.machine P) in

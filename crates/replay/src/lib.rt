@@ -2,11 +2,14 @@
 #![tactic(auto)]
 
 ghost use Rattle.std.specs.Prelude.{◌≡◌, true, cond, ◌&&◌, eqb, leb, ◌/◌, ◌≤◌, min, length};
+ghost use Rattle.fields.specs.Parse.{verdict_number};
 ghost use Rattle.batch.specs.Batch.{lines_limit};
 ghost use Rattle.replay.specs.Parts as spec;
 ghost use Rattle.replay.specs.Code as code;
 
+use fields::Verdict;
 pub use held::{Part, Replay, replay_start};
+use refusals::Refusal;
 
 // The most lines that one part replays.
 const BATCH: usize = 1024;
@@ -15,20 +18,17 @@ const BATCH: usize = 1024;
 fn is_last(ends: bool, taken: usize, n: usize) -> bool
     ensures { result ≡ (ends && eqb taken n) }
 {
-    if ends {
-        return taken == n;
-    }
-    false
+    ends && taken == n
 }
 
 // How much of a text of n bytes was taken, by what comes behind the lines replayed, which end at a place: all, where no more lines come.
-fn taken_by(verdict: u32, at: usize, n: usize) -> usize
-    ensures { result ≡ cond (eqb verdict 0) at n }
+fn taken_by(verdict: Verdict, at: usize, n: usize) -> usize
+    ensures { result ≡ cond (eqb (verdict_number verdict) 0) at n }
 {
-    if verdict == fields::MORE {
-        return at;
+    match verdict {
+        Verdict::More => at,
+        _ => n,
     }
-    n
 }
 
 // Replays the lines of a text, where none is begun and the slice has room for them.
@@ -49,7 +49,7 @@ fn replay_many(
     let state = replay.state;
     let cp15 = replay.cp15;
     let lines = replay.lines;
-    let n = pieces::least(out.len() / printed::WIDEST, BATCH);
+    let n = (out.len() / printed::WIDEST).min(BATCH);
     let b = batch::replay_lines(state, cp15, memory, bad, store, text, ends, lines, n, out);
     let mut after = held::settled(b, lines, text);
     after.taken = taken_by(b.verdict, b.end, text.len());
@@ -109,10 +109,7 @@ fn replay_one(
 fn is_roomy(held: usize, room: usize) -> bool
     ensures { result ≡ (eqb held 0 && leb 34 room) }
 {
-    if held == 0 {
-        return room >= printed::WIDEST;
-    }
-    false
+    held == 0 && room >= printed::WIDEST
 }
 
 // Replays lines: as many as the slice has room for, or one.
@@ -136,7 +133,7 @@ fn replay_text(
     replay_one(replay, memory, bad, store, text, ends, out)
 }
 
-// A part of a text; `ends` is not 0 where the text ends with it.
+// A part of a text; `ends` is not 0 where the text ends with it: a number, as C passes it.
 pub fn replay_part(
     replay: Replay,
     memory: &mut [u8],
@@ -152,14 +149,14 @@ pub fn replay_part(
 {
     let begun = replay.begun;
     let pending = replay.pending;
-    if held::is_kept(replay.lines, replay.held, replay.waiting, begun) {
-        if replay.waiting != 0 {
-            return held::put_out(replay, &pending, replay.waiting, out, 0);
-        }
-        if replay.stopped != 0 {
-            return held::passed(replay, text.len(), 0);
-        }
-        return replay_text(replay, memory, bad, store, text, ends != 0, out);
+    if !held::is_kept(replay.lines, replay.held, replay.waiting, begun) {
+        return held::passed(replay, 0, u32::from(Refusal::State));
     }
-    held::passed(replay, 0, 3)
+    if replay.waiting != 0 {
+        return held::put_out(replay, &pending, replay.waiting, out, 0);
+    }
+    if replay.stopped != 0 {
+        return held::passed(replay, text.len(), 0);
+    }
+    replay_text(replay, memory, bad, store, text, ends != 0, out)
 }

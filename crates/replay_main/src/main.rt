@@ -1,34 +1,17 @@
 // Replays a trace kept as text: standard input to standard output, in blocks, on 65,536 zero bytes of memory with no bad word.
 #![tactic(auto)]
 
-ghost use Rattle.std.specs.Prelude.{length, ◌+◌, ◌≤◌, IfOk};
+ghost use Rattle.std.specs.Prelude.{length, ◌+◌, ◌≤◌, IfOk, IfSome};
 
 use replay::Replay;
 use std::env::{Env, FillError};
 use std::io;
 use std::io::{Read, Stderr, Stdin, Stdout, Write};
 
-// What is replayed, and whether to go on.
-#[derive(Clone, Copy)]
-struct Going {
-    replay: Replay,
-    goes: bool,
-}
-
-// Writes what a part printed, or says why the replay cannot go on.
-fn write_lines(mut out: Stdout, mut err: Stderr, lines: &[u8], refusal: u32) -> io::Result<bool> {
-    if refusal != 0 {
-        err.write_all(b"replay: more lines than are counted\n")?;
-        return Ok(false);
-    }
-    out.write_all(lines)?;
-    Ok(true)
-}
-
-// One part from a place of a block on: the lines that it prints are written.
+// One part from a place of a block on: the lines that it prints are written. None where the replay cannot go on, which is said.
 fn replay_from(
-    to: Stdout,
-    err: Stderr,
+    mut to: Stdout,
+    mut err: Stderr,
     replay: Replay,
     memory: &mut [u8],
     bad: &[u8],
@@ -37,65 +20,49 @@ fn replay_from(
     at: usize,
     ends: u32,
     out: &mut [u8],
-) -> io::Result<Going>
+) -> io::Result<Option<Replay>>
     requires { at ≤ length block.now }
-    ensures { IfOk result (λ g. at + g.replay.taken ≤ length block.now) }
+    ensures { IfOk result (λ o. IfSome o (λ r. at + r.taken ≤ length block.now)) }
 {
     let p = replay::replay_part(replay, memory, bad, store, &block[at..], ends, out);
-    let after = p.replay;
-    let written = after.written;
-    let goes = write_lines(to, err, &out[..written], p.refusal)?;
-    Ok(Going {
-        replay: after,
-        goes,
-    })
-}
-
-// Whether a part took nothing and wrote nothing.
-fn is_done(taken: usize, written: usize) -> bool {
-    if taken == 0 {
-        return written == 0;
+    if p.refusal != 0 {
+        err.write_all(b"replay: more lines than are counted\n")?;
+        return Ok(None);
     }
-    false
+    let after = p.replay;
+    to.write_all(&out[..after.written])?;
+    Ok(Some(after))
 }
 
-// A block of the input, part by part, until nothing of it is taken and nothing is written.
+// A block of the input, part by part, until nothing of it is taken and nothing is written; none where the replay cannot go on.
 fn replay_block(
     to: Stdout,
     err: Stderr,
-    first: Replay,
+    mut replay: Replay,
     memory: &mut [u8],
     bad: &[u8],
     store: &mut [u8],
     block: &[u8],
     ends: u32,
     out: &mut [u8],
-) -> io::Result<Going> {
-    let mut replay = first;
+) -> io::Result<Option<Replay>> {
     let mut at: usize = 0;
     // a proved loop has to end: no block takes so many parts
-    let mut turns = u64::MAX;
-    while turns > 0 {
-        let g = replay_from(to, err, replay, memory, bad, store, block, at, ends, out)?;
-        if !g.goes {
-            return Ok(g);
+    for _ in 0..u64::MAX {
+        let Some(next) = replay_from(to, err, replay, memory, bad, store, block, at, ends, out)?
+        else {
+            return Ok(None);
+        };
+        if next.taken == 0 && next.written == 0 {
+            return Ok(Some(next));
         }
-        let next = g.replay;
-        let taken = next.taken;
-        if is_done(taken, next.written) {
-            return Ok(g);
-        }
-        at += taken;
+        at += next.taken;
         replay = next;
-        turns -= 1;
     }
-    Ok(Going {
-        replay,
-        goes: false,
-    })
+    Ok(None)
 }
 
-// Reads a block and replays it. Where the input ends, so does the text: a line that has begun departs.
+// Reads a block and replays it; none where the replay ends. Where the input ends, so does the text: a line that has begun departs.
 fn replay_input(
     mut from: Stdin,
     to: Stdout,
@@ -106,25 +73,17 @@ fn replay_input(
     store: &mut [u8],
     block: &mut [u8],
     out: &mut [u8],
-) -> io::Result<Going> {
+) -> io::Result<Option<Replay>> {
     let n = from.read(block)?;
     if n == 0 {
-        let last = replay_block(to, err, replay, memory, bad, store, &block[..0], 1, out)?;
-        let after = last.replay;
-        return Ok(Going {
-            replay: after,
-            goes: false,
-        });
+        replay_block(to, err, replay, memory, bad, store, &[], 1, out)?;
+        return Ok(None);
     }
-    let g = replay_block(to, err, replay, memory, bad, store, &block[..n], 0, out)?;
-    let after = g.replay;
-    Ok(Going {
-        replay: after,
-        goes: g.goes && after.stopped == 0,
-    })
+    let after = replay_block(to, err, replay, memory, bad, store, &block[..n], 0, out)?;
+    Ok(after.filter(|r| r.stopped == 0))
 }
 
-// Whether the program is called with arguments.
+// Whether the program is called with arguments. Two programs have this function: a crate for it would be longer than these lines.
 fn has_arguments(rt: &impl Env) -> bool {
     let mut first = [0u8; 1];
     match rt.arg(1, &mut first) {
@@ -155,12 +114,10 @@ fn main(rt: HostRuntime) -> io::Result<()> {
     let mut store = [0u8; 16384];
     let mut block = [0u8; 65536];
     let mut out = [0u8; 65536];
-    let started = replay::replay_start(&memory, &store);
-    let mut replay = started.replay;
+    let mut replay = replay::replay_start(&memory, &store).replay;
     // a proved loop has to end: no input has so many blocks
-    let mut turns = u64::MAX;
-    while turns > 0 {
-        let g = replay_input(
+    for _ in 0..u64::MAX {
+        let Some(next) = replay_input(
             rt.stdin(),
             rt.stdout(),
             rt.stderr(),
@@ -170,13 +127,11 @@ fn main(rt: HostRuntime) -> io::Result<()> {
             &mut store,
             &mut block,
             &mut out,
-        )?;
-        if !g.goes {
+        )?
+        else {
             return Ok(());
-        }
-        let next = g.replay;
+        };
         replay = next;
-        turns -= 1;
     }
     Ok(())
 }

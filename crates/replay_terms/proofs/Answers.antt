@@ -1,4 +1,5 @@
 -- How many lines are printed, where 13 stands, and what a served store or write answers.
+use Rattle.std.specs.Prelude.{Option, Some, None, Result, Ok, Err}
 use Prim.Native.Nat.{ℕ, ◌+◌, ◌≤◌}
 use native.Mathlib.Omega.{arith}
 use mathlib.Core.Bool.{true, false, cond, not, ◌&&◌}
@@ -15,8 +16,6 @@ use Rattle.values.specs.declared.Access.{Access}
 use Rattle.values.specs.declared.Call.{Call}
 use Rattle.values.specs.declared.Call.TheVariants.{Read, Write}
 use Rattle.values.specs.declared.Call.TheVariants as calls
-use Rattle.values.specs.declared.Search.{Search}
-use Rattle.values.specs.declared.Search.TheVariants.{At, Nothing}
 use Rattle.values.specs.declared.Answer.TheVariants as answer
 use Rattle.values.proofs.Cases.{case, clash}
 use Rattle.bus.specs.Physical.{aborts}
@@ -24,8 +23,6 @@ use Rattle.cache.specs.Dcache.{find}
 use Rattle.translation.specs.Alignment.{cleared}
 use Rattle.translation.specs.Faults.{buffers}
 use Rattle.translation.specs.declared.Place.{Place}
-use Rattle.translation.specs.declared.Checked.{Checked}
-use Rattle.translation.specs.declared.Checked.TheVariants.{Passed, Denied}
 use Rattle.trace.specs.Codes.{numbers_of}
 use Rattle.trace.specs.Fold.{answers_of}
 use Rattle.printed.proofs.Told.{lines_counted}
@@ -45,6 +42,7 @@ use Rattle.batch.specs.Batch.{refused13}
 use Rattle.replay.specs.Replay.{line_answers}
 use Rattle.replay_terms.specs.Printed.{AsMany, Without13, ThirteenLast, stores_or_writes, ZeroPrinted}
 use Rattle.replay_terms.proofs.Printing.{answers_counted}
+use Rattle.values.specs.declared.Cause.{Cause}
 
 -- ---- how many lines
 
@@ -120,10 +118,10 @@ module _ (m : Machine) (a : Access) (v : ℕ) (p : Place) where
       (λ h. rw (f, h) (λ e. refl)))
 
   -- a store, by what the cache holds
-  store_found_zero : (x : Search) → Zero (store_found m a v p x)
+  store_found_zero : (x : Option ℕ) → Zero (store_found m a v p x)
   unfolding store_hit
-  store_found_zero (At i) = λ e. refl
-  store_found_zero Nothing = store_miss_zero
+  store_found_zero (Some i) = λ e. refl
+  store_found_zero None = store_miss_zero
 
 -- an access whose translation and rights pass
 passed_zero : (m : Machine) (a : Access) (p : Place) (k : Kind) → (is_store k && not (is_swap k)) ≡ true → Zero (passed m a p k)
@@ -134,10 +132,10 @@ passed_zero m a p (Store v) s = store_found_zero m a v p (find m.side.cache.line
 passed_zero m a p (Swap v) s = clash {b = false} s refl
 
 -- an access, by what was decided
-at_zero : (m : Machine) (a : Access) (c : Checked) → (is_store a.kind && not (is_swap a.kind)) ≡ true → Zero (access_at m a c)
+at_zero : (m : Machine) (a : Access) (c : Result Place Cause) → (is_store a.kind && not (is_swap a.kind)) ≡ true → Zero (access_at m a c)
 unfolding access_at faulted
-at_zero m a (Denied s d) t = λ e. absurd (omega arith)
-at_zero m a (Passed p) t = passed_zero m a p a.kind t
+at_zero m a (Err why) t = λ e. absurd (omega arith)
+at_zero m a (Ok p) t = passed_zero m a p a.kind t
 
 -- a call
 done_zero : (m : Machine) (c : Call) → stores_or_writes c ≡ true → Zero (done m c)

@@ -5,7 +5,8 @@ ghost use Rattle.std.specs.Prelude.{◌≡◌, ◌<◌};
 ghost use Rattle.values.specs.Bits.{bit};
 ghost use Rattle.rights.specs.Rights.{rights, rights_at, rights_table, domain_value};
 
-// Index: domain value × 64 + AP × 16 + S × 8 + R × 4 + privileged × 2 + store. 0 allowed, 1 domain fault, 2 permission fault.
+// Index: domain value × 64 + AP × 16 + S × 8 + R × 4 + privileged × 2 + store. 0 allowed, 1 domain fault, 2 permission fault: bytes, since document 01
+// names the form, "const array of 256 bytes".
 const RIGHTS: [u8; 256] = [
     1, 1, 1, 1, 1, 1, 1, 1, 1, 1, 1, 1, 1, 1, 1, 1, // domain value 0, AP 0
     1, 1, 1, 1, 1, 1, 1, 1, 1, 1, 1, 1, 1, 1, 1, 1, // domain value 0, AP 1

@@ -8,13 +8,10 @@ use std::env::{Env, FillError};
 use std::io;
 use std::io::{Stderr, Stdout, Write};
 
-// Whether the program is called with arguments.
+// Whether the program is called with arguments. Two programs have this function: a crate for it would be longer than these lines.
 fn has_arguments(rt: &impl Env) -> bool {
     let mut first = [0u8; 1];
-    match rt.arg(1, &mut first) {
-        Err(FillError::NotPresent) => false,
-        _ => true,
-    }
+    !matches!(rt.arg(1, &mut first), Err(FillError::NotPresent))
 }
 
 fn print_usage(mut err: Stderr) -> io::Result<()> {

@@ -1,4 +1,5 @@
 -- The table worked out is the constant table.
+use Rattle.std.specs.Prelude.{Result, Err, Ok}
 use Prim.Native.Nat.{ℕ, zero, suc, ◌<◌}
 use native.Mathlib.Omega.{arith}
 use mathlib.Core.Bool.{Bool, true, false, cond}
@@ -20,14 +21,15 @@ use Rattle.translation.specs.Alignment.{alignment_faults, cleared}
 use Rattle.translation.specs.Translation.{judged, checked_by, checked, decided}
 use Rattle.translation.specs.declared.Translation.{Translation}
 use Rattle.translation.specs.declared.Translation.TheVariants.{Held, Walked}
-use Rattle.translation.specs.declared.Checked.{Checked}
-use Rattle.translation.specs.declared.Checked.TheVariants.{Denied}
 use Rattle.printed.specs.Printed.{decimal_by, feeds}
 use Rattle.access_table.specs.Permissions.{rows, rows_for, permitted}
 use Rattle.access_table.specs.AccessTable.{access_entry, access_table}
 use Rattle.access_table.specs.Lines.{entry_line, entry_lines}
 use Rattle.access_table.proofs.Entries.{table_long}
 use Rattle.rights_terms.specs.SameTable.{SameTable, SameAt, SameRule, entry_for, AccessUses, OneRow, Text, Fills, SameExports}
+use Rattle.values.specs.declared.Cause.{Cause}
+use Rattle.values.specs.Causes.{cause_from}
+use Rattle.translation.specs.declared.Place.{Place}
 
 -- both tables, computed
 pub same_table : SameTable
@@ -67,16 +69,16 @@ judged_by r a e =
     ap (λ (n : ℕ). judged n e va) (sym same.rule)
 
 -- what is decided of an access, by a mapping that passes or faults as c says
-decided_by_lem : (r : Registers) (a : Access) (t : Translation) (c : Checked) → checked r a t ≡ c
-    → (decided r a t).checked ≡ cond (alignment_faults r a) (Denied Alignment 0) c
+decided_by_lem : (r : Registers) (a : Access) (t : Result Translation Cause) (c : Result Place Cause) → checked r a t ≡ c
+    → (decided r a t).checked ≡ cond (alignment_faults r a) (Err (cause_from Alignment 0)) c
 unfolding decided
 decided_by_lem r a t c h = case (alignment_faults r a) (λ f. rw f) (λ f. rw f h)
 
 pub access_uses : (r : Registers) (a : Access) (e : Entry) → AccessUses r a e
 access_uses r a e =
     record {
-      held = decided_by_lem r a (Held e) (judged (entry_for r a e) e (cleared a)) (judged_by r a e);
-      walked = decided_by_lem r a (Walked e) (judged (entry_for r a e) e (cleared a)) (judged_by r a e);
+      held = decided_by_lem r a (Ok (Held e)) (judged (entry_for r a e) e (cleared a)) (judged_by r a e);
+      walked = decided_by_lem r a (Ok (Walked e)) (judged (entry_for r a e) e (cleared a)) (judged_by r a e);
     }
 
 -- one row of table 2-3 for each AP, S and R, computed

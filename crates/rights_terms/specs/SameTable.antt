@@ -1,6 +1,6 @@
 -- Document 02, Six: "What it works out equals the constant table at every index." What it works out is `access_table`, made of the rows of 001's table 2-3
 -- and the domain values; the constant table is `rights_table`, and `rights` is the rule that an access uses.
-use Rattle.std.specs.Prelude.{ℕ, ◌<◌, Bool, cond, List, [], ◌∷◌, ◌≡◌, length, get_or, take, drop}
+use Rattle.std.specs.Prelude.{ℕ, ◌<◌, Bool, cond, List, [], ◌∷◌, ◌≡◌, length, get_or, take, drop, Result, Err, Ok}
 use Rattle.values.specs.Control.{system, rom}
 use Rattle.values.specs.Kinds.{is_store}
 use Rattle.values.specs.declared.Registers.{Registers}
@@ -12,13 +12,14 @@ use Rattle.tlb.specs.Tlb.{ap_of}
 use Rattle.translation.specs.Alignment.{alignment_faults, cleared}
 use Rattle.translation.specs.Translation.{judged, decided}
 use Rattle.translation.specs.declared.Translation.TheVariants.{Held, Walked}
-use Rattle.translation.specs.declared.Checked.{Checked}
-use Rattle.translation.specs.declared.Checked.TheVariants.{Denied}
 use Rattle.printed.specs.Printed.{feeds}
 use Rattle.access_table.specs.Permissions.{rows, rows_for}
 use Rattle.access_table.specs.AccessTable.{access_entry, access_table}
 use Rattle.access_table.specs.Lines.{entry_lines, table_text}
 use Rattle.host.specs.Exports.{right_code}
+use Rattle.values.specs.declared.Cause.{Cause}
+use Rattle.values.specs.Causes.{cause_from}
+use Rattle.translation.specs.declared.Place.{Place}
 
 -- the whole tables, entry by entry
 abbrev pub SameTable : Type 0
@@ -42,12 +43,12 @@ entry_for r a e =
 
 -- what is decided of an access that this mapping, held or walked, serves: where it passes alignment, by the entry at its index its rights pass, or it has a
 -- domain fault or a permission fault
-abbrev pub decided_by : Registers → Access → Entry → Checked
-decided_by r a e = cond (alignment_faults r a) (Denied Alignment 0) (judged (entry_for r a e) e (cleared a))
+abbrev pub decided_by : Registers → Access → Entry → Result Place Cause
+decided_by r a e = cond (alignment_faults r a) (Err (cause_from Alignment 0)) (judged (entry_for r a e) e (cleared a))
 
 pub record AccessUses (r : Registers) (a : Access) (e : Entry) : Type 0 where
-  pub held : (decided r a (Held e)).checked ≡ decided_by r a e
-  pub walked : (decided r a (Walked e)).checked ≡ decided_by r a e
+  pub held : (decided r a (Ok (Held e))).checked ≡ decided_by r a e
+  pub walked : (decided r a (Ok (Walked e))).checked ≡ decided_by r a e
 
 -- table 2-3 has one row for each AP of two bits, S and R
 abbrev pub OneRow : ℕ → Bool → Bool → Type 0

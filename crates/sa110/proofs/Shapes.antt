@@ -104,49 +104,50 @@ module _ (memory bad store : List ℕ) (s : State) (r : Cp15) (bs : List (List �
       Serves (machine_of (lists_in memory bad store s x) s.entries (scalars_in s r) s.size)) (sym b)
       (λ g. record { formed = g; is_sound = a.is_sound; size = a.size; map_fits_lem = a.map_fits_lem }) f)
 
-  pub called_by_lem : (k : Lists) (fs : List ℕ) (o : Outcome) (c : Call) (held : List SlotBytes)
+  -- what the lent lists and arrays hold once the struct of references ends is named by itself, beside the lists behind the struct
+  pub called_by_lem : {m bd st ls ps ws : List ℕ} (k : Lists) (fs : List ℕ) (o : Outcome) (c : Call) (held : List SlotBytes)
       → stepped_of k fs (length memory) o ≡ served (machine_of (lists_in memory bad store s bs) s.entries (scalars_in s r) (length memory)) c
-      → bytes_of held ≡ k.bytes
-      → called_of k.memory k.bad k.store (record {
+      → bytes_of held ≡ k.bytes → m ≡ k.memory → bd ≡ k.bad → st ≡ k.store → ls ≡ k.lines → ps ≡ k.pointers → ws ≡ k.words
+      → called_of m bd st (record {
         state = record {
           size = s.size;
           counts = o.scalars.counts;
           used = o.scalars.used;
           entries = fs;
-          lines = k.lines;
-          pointers = k.pointers;
-          words = k.words;
+          lines = ls;
+          pointers = ps;
+          words = ws;
           slots = held;
         };
         cp15 = o.scalars.cp15;
         answer = o.answer;
       })
       ≡ served (machine_in memory bad store s r) c
-  called_by_lem k fs o c held e g =
+  called_by_lem k fs o c held e g em eb es el ep ew =
       let a = acc in
-      rw (g, a.size) (subst (λ (x : List (List ℕ)). stepped_of k fs (length memory) o
+      rw (em, eb, es, el, ep, ew, g, a.size) (subst (λ (x : List (List ℕ)). stepped_of k fs (length memory) o
       ≡ served (machine_of (lists_in memory bad store s x) s.entries (scalars_in s r) (length memory)) c) b e)
 
-  pub ran_by : (k : Lists) (fs answers : List ℕ) (t : Scalars) (made : ℕ) (held : List SlotBytes) (n : ℕ) (calls old : List ℕ)
+  pub ran_by : {m bd st ls ps ws : List ℕ} (k : Lists) (fs answers : List ℕ) (t : Scalars) (made : ℕ) (held : List SlotBytes) (n : ℕ) (calls old : List ℕ)
       → leaves (machine_of k fs t (length memory)) answers made
       ≡ left_by (machine_of (lists_in memory bad store s bs) s.entries (scalars_in s r) (length memory)) (calls_in n calls 0) old
-      → bytes_of held ≡ k.bytes
-      → ran_of k.memory k.bad k.store answers (record {
+      → bytes_of held ≡ k.bytes → m ≡ k.memory → bd ≡ k.bad → st ≡ k.store → ls ≡ k.lines → ps ≡ k.pointers → ws ≡ k.words
+      → ran_of m bd st answers (record {
         state = record {
           size = s.size;
           counts = t.counts;
           used = t.used;
           entries = fs;
-          lines = k.lines;
-          pointers = k.pointers;
-          words = k.words;
+          lines = ls;
+          pointers = ps;
+          words = ws;
           slots = held;
         };
         cp15 = t.cp15;
         made = made;
       })
       ≡ left_by (machine_in memory bad store s r) (calls_in n calls 0) old
-  ran_by k fs answers t made held n calls old e g =
+  ran_by k fs answers t made held n calls old e g em eb es el ep ew =
       let a = acc in
-      rw (g, a.size) (subst (λ (x : List (List ℕ)). leaves (machine_of k fs t (length memory)) answers made
+      rw (em, eb, es, el, ep, ew, g, a.size) (subst (λ (x : List (List ℕ)). leaves (machine_of k fs t (length memory)) answers made
       ≡ left_by (machine_of (lists_in memory bad store s x) s.entries (scalars_in s r) (length memory)) (calls_in n calls 0) old) b e)

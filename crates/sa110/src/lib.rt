@@ -9,6 +9,7 @@ ghost use Rattle.step.specs.Run as runs;
 ghost use Rattle.sa110.specs.State.{machine_in, called_of, ran_of};
 
 pub use look::{Part, look, shown};
+use machine::Lent;
 pub use state::{SlotBytes, Started, State, is_sound, start};
 use values::{Answer, Call, Cp15};
 
@@ -42,19 +43,16 @@ fn serve(
     let counts = state.counts;
     let mut bytes = state::unpacked(slots);
     let scalars = machine::scalars_of(cp15, counts, state.used);
-    let o = step::step(
-        &table,
+    let mut side = Lent {
         memory,
         bad,
-        &mut words,
-        &mut bytes,
-        &mut lines,
-        &mut pointers,
+        words: &mut words,
+        bytes: &mut bytes,
+        lines: &mut lines,
+        pointers: &mut pointers,
         store,
-        &mut entries,
-        scalars,
-        c,
-    );
+    };
+    let o = step::step(&table, &mut side, &mut entries, scalars, c);
     let t = o.scalars;
     let answer = o.answer;
     let record = t.cp15;
@@ -89,12 +87,11 @@ pub fn call(
     ensures { called_of memory.new bad.now store.new result
         ≡ spec.served (machine_in memory.old bad.now store.old state cp15) c }
 {
-    let n = state::state_refusal(state, cp15, memory, bad, store);
-    if n != 0 {
+    if let Err(r) = state::state_refusal(state, cp15, memory, bad, store) {
         return Called {
             state,
             cp15,
-            answer: Answer::Refused(n),
+            answer: Answer::Refused(u32::from(r)),
         };
     }
     serve(state, cp15, memory, bad, store, c)
@@ -133,21 +130,16 @@ fn run_served(
     let counts = state.counts;
     let mut bytes = state::unpacked(slots);
     let scalars = machine::scalars_of(cp15, counts, state.used);
-    let f = step::run_calls(
-        &table,
+    let mut side = Lent {
         memory,
         bad,
-        &mut words,
-        &mut bytes,
-        &mut lines,
-        &mut pointers,
+        words: &mut words,
+        bytes: &mut bytes,
+        lines: &mut lines,
+        pointers: &mut pointers,
         store,
-        &mut entries,
-        scalars,
-        calls,
-        answers,
-        n,
-    );
+    };
+    let f = step::run_calls(&table, &mut side, &mut entries, scalars, calls, answers, n);
     let t = f.scalars;
     let record = t.cp15;
     let counted = t.counts;
@@ -184,12 +176,11 @@ pub fn run(
         ≡ runs.run (machine_in memory.old bad.now store.old state cp15) calls.now answers.old }
 {
     let n = trace::calls_held(calls, answers);
-    let refusal = state::state_refusal(state, cp15, memory, bad, store);
-    if refusal != 0 {
+    if let Err(r) = state::state_refusal(state, cp15, memory, bad, store) {
         return Ran {
             state,
             cp15,
-            made: step::refuse_calls(calls, answers, n, refusal),
+            made: step::refuse_calls(calls, answers, n, u32::from(r)),
         };
     }
     run_served(state, cp15, memory, bad, store, calls, answers, n)

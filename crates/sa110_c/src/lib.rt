@@ -1,4 +1,4 @@
-// The functions for C, Rust and Python, each by its name in the header: the library's own, with the same clauses.
+// The functions for C, Rust and Python, each by its name in the header: the library's own, with the same clauses. C links these names.
 #![tactic(auto)]
 
 ghost use Rattle.std.specs.Prelude.{◌≡◌, List, ℕ, length};

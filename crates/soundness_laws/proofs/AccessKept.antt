@@ -1,4 +1,5 @@
 -- An access keeps a machine sound.
+use Rattle.std.specs.Prelude.{Option, Some, None, Result, Ok, Err}
 use Prim.Native.Nat.{ℕ, ◌+◌, ◌*◌, ◌/◌, ◌<◌, ◌≤◌}
 use native.Mathlib.Omega.{arith}
 use mathlib.Core.Bool.{true, false, ◌||◌}
@@ -15,15 +16,11 @@ use Rattle.values.specs.declared.Kind.{Kind}
 use Rattle.values.specs.declared.Kind.TheVariants.{Load, SignedLoad, Store, Swap}
 use Rattle.values.specs.declared.Fault.{Fault}
 use Rattle.values.specs.declared.Status.{Status}
-use Rattle.values.specs.declared.Search.{Search}
-use Rattle.values.specs.declared.Search.TheVariants.{At, Nothing}
 use Rattle.values.proofs.Cases.{case, or_cases}
 use Rattle.words.specs.Words.{is_width, stored}
 use Rattle.bus.specs.Physical.{outside, aborts, wanted_aborts, line_aborts}
 use Rattle.translation.specs.declared.Translation.{Translation}
 use Rattle.translation.specs.declared.Place.{Place}
-use Rattle.translation.specs.declared.Checked.{Checked}
-use Rattle.translation.specs.declared.Checked.TheVariants.{Passed, Denied}
 use Rattle.translation.specs.Alignment.{cleared}
 use Rattle.translation.specs.Faults.{fills, buffers, fill_status, other_status, fault_set}
 use Rattle.translation.specs.Ranges.{PlaceRanged, CheckedRanged}
@@ -49,6 +46,7 @@ use Rattle.soundness_laws.proofs.CountsKept.{Room, counted_room, after_room, roo
 use Rattle.soundness_laws.proofs.Holding.{Holding, Kept, Roomy, holding_of, roomy_holding, holding_kept}
 use Rattle.soundness_laws.proofs.Replaced.{holding_with, with_counts_lem, with_registers_lem, with_side_lem, with_cache_lem, with_backing_lem}
 use Rattle.soundness_laws.proofs.Reader.{clauses_parts, sound_of}
+use Rattle.values.specs.declared.Cause.{Cause}
 
 -- ---- the address
 
@@ -80,7 +78,7 @@ module _ (n start : ℕ) where
     pub holding : Holding n start m
     pub counts : CountsAre m.counts (lines_of m)
 
-  committed_amid : (m : Machine) (t : Translation) → Amid 1 m → Serves t → Amid 0 (committed m t)
+  committed_amid : (m : Machine) (t : Result Translation Cause) → Amid 1 m → Serves t → Amid 0 (committed m t)
   unfolding committed
   committed_amid m t k s =
       let h = k.holding in
@@ -137,7 +135,7 @@ module _ (n start : ℕ) (a : Access) (width : is_width a.width ≡ true) (low :
         }
 
     module _ (p : Place) (r : PlaceRanged (cleared a) p) where
-      after_done : find (lines_of m) (cleared a) ≡ Nothing → Done n start (after_fill m a p)
+      after_done : find (lines_of m) (cleared a) ≡ None → Done n start (after_fill m a p)
       unfolding after_fill
       after_done e =
           let s = filled m.side (cleared a) p.address in
@@ -151,7 +149,7 @@ module _ (n start : ℕ) (a : Access) (width : is_width a.width ≡ true) (low :
                 (λ u. rw u (filled_are m.counts (lines_of m) s.side.cache.lines s.halves d k.room));
           }
 
-      fill_done : find (lines_of m) (cleared a) ≡ Nothing → Done n start (load_fill m a p).machine
+      fill_done : find (lines_of m) (cleared a) ≡ None → Done n start (load_fill m a p).machine
       unfolding load_fill
       fill_done e =
           case (wanted_aborts (physical_of m) p.address)
@@ -168,7 +166,7 @@ module _ (n start : ℕ) (a : Access) (width : is_width a.width ≡ true) (low :
             counts = counts_stay;
           }
 
-      load_miss_done : find (lines_of m) (cleared a) ≡ Nothing → Done n start (load_miss m a p).machine
+      load_miss_done : find (lines_of m) (cleared a) ≡ None → Done n start (load_miss m a p).machine
       unfolding load_miss
       load_miss_done e =
           case (fills m.cp15.registers p)
@@ -178,9 +176,9 @@ module _ (n start : ℕ) (a : Access) (width : is_width a.width ≡ true) (low :
           (λ u. rw (t, u) (faulted_done (other_status p) p.domain r.domain))
           (λ u. rw (t, u) uncached_done))
 
-      load_found_done : (x : Search) → find (lines_of m) (cleared a) ≡ x → Done n start (load_found m a p x).machine
-      load_found_done (At i) e = load_hit_done i
-      load_found_done Nothing e = load_miss_done e
+      load_found_done : (x : Option ℕ) → find (lines_of m) (cleared a) ≡ x → Done n start (load_found m a p x).machine
+      load_found_done (Some i) e = load_hit_done i
+      load_found_done None e = load_miss_done e
 
       load_done : Done n start (load m a p).machine
       unfolding load
@@ -189,7 +187,7 @@ module _ (n start : ℕ) (a : Access) (width : is_width a.width ≡ true) (low :
       -- ---- stores
 
       module _ (v : ℕ) where
-        store_hit_done : (i : ℕ) → find (lines_of m) (cleared a) ≡ At i → Done n start (store_hit m a v i).machine
+        store_hit_done : (i : ℕ) → find (lines_of m) (cleared a) ≡ Some i → Done n start (store_hit m a v i).machine
         unfolding store_hit
         store_hit_done i e =
             let c = hit_store m.side.cache i (cleared a) a.width v in
@@ -235,9 +233,9 @@ module _ (n start : ℕ) (a : Access) (width : is_width a.width ≡ true) (low :
             (λ u. rw (t, u) (faulted_done (other_status p) p.domain r.domain))
             (λ u. rw (t, u) direct_done))
 
-        store_found_done : (x : Search) → find (lines_of m) (cleared a) ≡ x → Done n start (store_found m a v p x).machine
-        store_found_done (At i) e = store_hit_done i e
-        store_found_done Nothing e = store_miss_done
+        store_found_done : (x : Option ℕ) → find (lines_of m) (cleared a) ≡ x → Done n start (store_found m a v p x).machine
+        store_found_done (Some i) e = store_hit_done i e
+        store_found_done None e = store_miss_done
 
         store_done : Done n start (store m a v p).machine
         unfolding store
@@ -252,10 +250,10 @@ module _ (n start : ℕ) (a : Access) (width : is_width a.width ≡ true) (low :
             (λ u. rw u (faulted_done (other_status p) p.domain r.domain))
             (λ u. rw u direct_done)
 
-        swap_found_done : (x : Search) → find (lines_of m) (cleared a) ≡ x → Done n start (swap_found m a v p x).machine
+        swap_found_done : (x : Option ℕ) → find (lines_of m) (cleared a) ≡ x → Done n start (swap_found m a v p x).machine
         unfolding swap_hit
-        swap_found_done (At i) e = store_hit_done i e
-        swap_found_done Nothing e = swap_miss_done
+        swap_found_done (Some i) e = store_hit_done i e
+        swap_found_done None e = swap_miss_done
 
         swap_done : Done n start (swap m a v p).machine
         unfolding swap
@@ -269,10 +267,10 @@ module _ (n start : ℕ) (a : Access) (width : is_width a.width ≡ true) (low :
       passed_done (Store v) = store_done v
       passed_done (Swap v) = swap_done v
 
-    access_at_done : (x : Checked) → CheckedRanged (cleared a) x → Done n start (access_at m a x).machine
+    access_at_done : (x : Result Place Cause) → CheckedRanged (cleared a) x → Done n start (access_at m a x).machine
     unfolding access_at
-    access_at_done (Denied s d) r = faulted_done s d r
-    access_at_done (Passed p) r = passed_done p r a.kind
+    access_at_done (Err why) r = faulted_done why.status why.domain r
+    access_at_done (Ok p) r = passed_done p r a.kind
 
   access_done : (m : Machine) → Amid n start 1 m → Done n start (access m a).machine
   unfolding access

@@ -1,4 +1,5 @@
 -- What leaves and enters the write buffer keeps it sound, and memory a list of so many bytes.
+use Rattle.std.specs.Prelude.{Option, Some, None}
 use Prim.Native.Nat.{ℕ, zero, suc, ◌+◌, ◌*◌, ◌%◌, ◌^◌, ◌<◌, ◌≤◌}
 use native.Mathlib.Omega.{arith}
 use native.Mathlib.Nat.{zero-div}
@@ -17,8 +18,6 @@ use Rattle.values.specs.Empty.{empty_slot}
 use Rattle.values.specs.Bits.{bit}
 use Rattle.values.specs.declared.PhysicalAddress.{PhysicalAddress}
 use Rattle.values.specs.declared.Slot.{Slot}
-use Rattle.values.specs.declared.Search.{Search}
-use Rattle.values.specs.declared.Search.TheVariants.{At, Nothing}
 use Rattle.values.proofs.Cases.{case, clash, or_none}
 use Rattle.words.specs.Words.{stored, Bytes}
 use Rattle.words.proofs.Laws.{length_stored, byte_before, byte_behind}
@@ -194,11 +193,11 @@ pub buffered_kept : (n : ℕ) (b : Backing) (pa : PhysicalAddress) (w v : ℕ) �
 unfolding buffered
 buffered_kept n b pa w v k p h i = by (newest_of b.buffer.slots (block_of pa) b.buffer.used) refl
   where
-    by : (x : Search) → newest_of b.buffer.slots (block_of pa) b.buffer.used ≡ x → BackingIs n (stored_at b (block_of pa) w (pa.0 % 16) v x)
-    by Nothing e =
+    by : (x : Option ℕ) → newest_of b.buffer.slots (block_of pa) b.buffer.used ≡ x → BackingIs n (stored_at b (block_of pa) w (pa.0 % 16) v x)
+    by None e =
         let o = pa.0 % 16 in
         pushed_kept n b (new_slot (block_of pa) w o v) k (new_holds n (block_of pa) w o v i p h) (length_stored w (replicate 16 0) o v)
-    by (At j) e =
+    by (Some j) e =
         let l = b.buffer.slots in
         let u = b.buffer.used in
         let s = joined (slot_at b.buffer j) w (pa.0 % 16) v in
@@ -207,7 +206,7 @@ buffered_kept n b pa w v k p h i = by (newest_of b.buffer.slots (block_of pa) b.
         record {
           memory_long = k.memory_long;
           memory_bytes = k.memory_bytes;
-          shape = shape_stored b (block_of pa) w (pa.0 % 16) v (At j) k.shape;
+          shape = shape_stored b (block_of pa) w (pa.0 % 16) v (Some j) k.shape;
           entries = λ x g.
               case (eqb x j)
               (λ t. let q : x ≡ j = eqb-true x j t in rw (q, get_or-set_same l j s empty_slot (omega (arith, k.shape.places, k.shape.low))) new)

@@ -1,4 +1,5 @@
 -- Hits, fills, cleans and flushes keep the Dcache sound, and the write buffer behind it.
+use Rattle.std.specs.Prelude.{Option, Some, None}
 use Prim.Native.Nat.{ℕ, ◌+◌, ◌*◌, ◌/◌, ◌%◌, ◌<◌, ◌≤◌}
 use native.Mathlib.Omega.{arith}
 use mathlib.Core.Bool.{Bool, true, false}
@@ -14,8 +15,6 @@ use Rattle.values.specs.Empty.{empty_line}
 use Rattle.values.specs.declared.VirtualAddress.{VirtualAddress}
 use Rattle.values.specs.declared.PhysicalAddress.{PhysicalAddress}
 use Rattle.values.specs.declared.Line.{Line}
-use Rattle.values.specs.declared.Search.{Search}
-use Rattle.values.specs.declared.Search.TheVariants.{At, Nothing}
 use Rattle.values.proofs.Cases.{case, clash, and_no}
 use Rattle.words.specs.Words.{Bytes}
 use Rattle.bus.proofs.Laws.{line_inside}
@@ -147,7 +146,7 @@ fresh_is n va pa h k = record { inside = λ v. k; tag = λ v. omega arith; empty
 
 -- ---- a hit
 
-pub hit_kept : (n : ℕ) (c : Dcache) (va : VirtualAddress) (i w v : ℕ) → CacheIs n c → find c.lines va ≡ At i → CacheIs n (hit_store c i va w v)
+pub hit_kept : (n : ℕ) (c : Dcache) (va : VirtualAddress) (i w v : ℕ) → CacheIs n c → find c.lines va ≡ Some i → CacheIs n (hit_store c i va w v)
 unfolding hit_store
 hit_kept n c va i w v k e =
     let f = found c.lines va i e in
@@ -234,7 +233,7 @@ read_kept n c i va pa m low in_set k f h long b g =
       pointers = k.pointers;
     }
 
-pub filled_kept : (n : ℕ) (s : Side) (va : VirtualAddress) (pa : PhysicalAddress) → SideIs n s → find s.cache.lines va ≡ Nothing
+pub filled_kept : (n : ℕ) (s : Side) (va : VirtualAddress) (pa : PhysicalAddress) → SideIs n s → find s.cache.lines va ≡ None
     → va.0 < 0x100000000 → SideIs n (filled s va pa).side
 filled_kept n s va pa k e h =
     fill_cases s va pa (SideIs n) (λ t. w)
@@ -267,10 +266,10 @@ filled_kept n s va pa k e h =
 
 -- ---- a clean, and flushes
 
-pub clean_at_kept : (n : ℕ) (s : Side) (va : VirtualAddress) (x : Search) → SideIs n s → find s.cache.lines va ≡ x → SideIs n (cleaned_at s x).side
+pub clean_at_kept : (n : ℕ) (s : Side) (va : VirtualAddress) (x : Option ℕ) → SideIs n s → find s.cache.lines va ≡ x → SideIs n (cleaned_at s x).side
 unfolding cleaned_at
-clean_at_kept n s va Nothing k e = k
-clean_at_kept n s va (At i) k e =
+clean_at_kept n s va None k e = k
+clean_at_kept n s va (Some i) k e =
     let c = s.cache in
     let l = line_at c i in
     let f = found c.lines va i e in
@@ -291,10 +290,10 @@ pub cleaned_kept : (n : ℕ) (s : Side) (va : VirtualAddress) → SideIs n s →
 unfolding cleaned
 cleaned_kept n s va k = clean_at_kept n s va (find s.cache.lines va) k refl
 
-pub flush_at_kept : (n : ℕ) (c : Dcache) (va : VirtualAddress) (x : Search) → CacheIs n c → find c.lines va ≡ x → CacheIs n (flushed_at c x)
+pub flush_at_kept : (n : ℕ) (c : Dcache) (va : VirtualAddress) (x : Option ℕ) → CacheIs n c → find c.lines va ≡ x → CacheIs n (flushed_at c x)
 unfolding flushed_at
-flush_at_kept n c va Nothing k e = k
-flush_at_kept n c va (At i) k e =
+flush_at_kept n c va None k e = k
+flush_at_kept n c va (Some i) k e =
     let f = found c.lines va i e in
     record {
       shape = shape_with c i empty_line k.shape;

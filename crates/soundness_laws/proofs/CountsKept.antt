@@ -1,4 +1,5 @@
 -- The counts through a call: it is counted, then a miss, a hit, a fill and halves sent out keep them sound.
+use Rattle.std.specs.Prelude.{Result, Ok, Err}
 use Prim.Native.Nat.{ℕ, ◌+◌, ◌≤◌}
 use native.Mathlib.Omega.{arith}
 use mathlib.Core.Path.{◌≡◌}
@@ -8,10 +9,11 @@ use Rattle.values.specs.Lists.{sum}
 use Rattle.values.specs.declared.Counts.{Counts}
 use Rattle.values.specs.declared.Line.{Line}
 use Rattle.translation.specs.declared.Translation.{Translation}
-use Rattle.translation.specs.declared.Translation.TheVariants.{Flat, Held, Walked, Failed}
+use Rattle.translation.specs.declared.Translation.TheVariants.{Flat, Held, Walked}
 use Rattle.translation.specs.Translation.{counts_after}
 use Rattle.cache.specs.Dcache.{dirty_halves}
 use Rattle.soundness_laws.proofs.ScalarParts.{CountsAre}
+use Rattle.values.specs.declared.Cause.{Cause}
 
 -- room for k misses more, and for a hit, a fill and a dirty half more
 pub record Room (k : ℕ) (c : Counts) (lines : List Line) : Type 0 where
@@ -37,11 +39,11 @@ module _ (c : Counts) (lines : List Line) where
   missed_room : Room 1 c lines → Room 0 (missed c) lines
   missed_room r = record { misses = (let x = r.misses in omega arith); hits = r.hits; fills = r.fills; halves = r.halves }
 
-  pub after_room : (t : Translation) → Room 1 c lines → Room 0 (counts_after c t) lines
-  after_room Flat r = idle_room r
-  after_room (Held e) r = idle_room r
-  after_room (Walked e) r = missed_room r
-  after_room (Failed s d) r = missed_room r
+  pub after_room : (t : Result Translation Cause) → Room 1 c lines → Room 0 (counts_after c t) lines
+  after_room (Ok Flat) r = idle_room r
+  after_room (Ok (Held e)) r = idle_room r
+  after_room (Ok (Walked e)) r = missed_room r
+  after_room (Err why) r = missed_room r
 
   -- counts with room are sound
   pub room_are : (k : ℕ) → Room k c lines → CountsAre c lines

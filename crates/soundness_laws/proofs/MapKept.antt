@@ -1,4 +1,5 @@
 -- "unchanged through a run": no call that is served changes the map.
+use Rattle.std.specs.Prelude.{Option, Some, None, Result, Ok, Err}
 use Prim.Native.Nat.{ℕ}
 use mathlib.Core.Path.{◌≡◌, refl}
 use Rattle.values.specs.declared.VirtualAddress.{VirtualAddress}
@@ -6,8 +7,6 @@ use Rattle.values.specs.declared.Kind.{Kind}
 use Rattle.values.specs.declared.Kind.TheVariants.{Load, SignedLoad, Store, Swap}
 use Rattle.values.specs.declared.Access.{Access}
 use Rattle.values.specs.declared.Transfer.{Transfer}
-use Rattle.values.specs.declared.Search.{Search}
-use Rattle.values.specs.declared.Search.TheVariants.{At, Nothing}
 use Rattle.values.proofs.Cases.{case}
 use Rattle.bus.specs.Physical.{outside, aborts, wanted_aborts}
 use Rattle.buffer.proofs.Lengths.{bad_drained, bad_ready, bad_buffered}
@@ -16,8 +15,6 @@ use Rattle.cache.proofs.Unchanged.{bad_filled, bad_cleaned}
 use Rattle.translation.specs.Alignment.{cleared}
 use Rattle.translation.specs.Faults.{fills, buffers}
 use Rattle.translation.specs.declared.Place.{Place}
-use Rattle.translation.specs.declared.Checked.{Checked}
-use Rattle.translation.specs.declared.Checked.TheVariants.{Passed, Denied}
 use Rattle.machine.specs.Machine.{Machine, bad_of, physical_of}
 use Rattle.reach.specs.Reach.{decision, committed, faulted}
 use Rattle.loads.specs.Loads.{load_hit, after_fill, load_fill, load_uncached, load_miss, load_found, load}
@@ -25,6 +22,7 @@ use Rattle.stores.specs.Stores.{store_hit, store_buffered, store_direct, store_m
 use Rattle.swaps.specs.Swaps.{swap_hit, swap_direct, swap_miss, swap_found, swap}
 use Rattle.access.specs.Access.{passed, access_at, access}
 use Rattle.cp15.specs.Operations.{flushes_dcache, flushes_line, cleans_line, drains, flushes_tlb, drops_entries, operated, read, write}
+use Rattle.values.specs.declared.Cause.{Cause}
 
 module _ (m : Machine) (a : Access) where
   module _ (p : Place) where
@@ -49,10 +47,10 @@ module _ (m : Machine) (a : Access) where
         (λ t. rw t bad_fill)
         (λ t. case (aborts (physical_of m) p.address) (λ u. rw (t, u)) (λ u. rw (t, u) bad_uncached))
 
-    bad_load_found : (x : Search) → bad_of (load_found m a p x).machine ≡ bad_of m
+    bad_load_found : (x : Option ℕ) → bad_of (load_found m a p x).machine ≡ bad_of m
     unfolding load_hit
-    bad_load_found (At i) = refl
-    bad_load_found Nothing = bad_load_miss
+    bad_load_found (Some i) = refl
+    bad_load_found None = bad_load_miss
 
     bad_load : bad_of (load m a p).machine ≡ bad_of m
     unfolding load
@@ -77,10 +75,10 @@ module _ (m : Machine) (a : Access) where
           (λ t. rw t bad_store_buffered)
           (λ t. case (aborts (physical_of m) p.address) (λ u. rw (t, u)) (λ u. rw (t, u) bad_direct))
 
-      bad_store_found : (x : Search) → bad_of (store_found m a v p x).machine ≡ bad_of m
+      bad_store_found : (x : Option ℕ) → bad_of (store_found m a v p x).machine ≡ bad_of m
       unfolding store_hit
-      bad_store_found (At i) = refl
-      bad_store_found Nothing = bad_store_miss
+      bad_store_found (Some i) = refl
+      bad_store_found None = bad_store_miss
 
       bad_store : bad_of (store m a v p).machine ≡ bad_of m
       unfolding store
@@ -92,10 +90,10 @@ module _ (m : Machine) (a : Access) where
       unfolding swap_miss swap_direct faulted
       bad_swap_miss = case (aborts (physical_of m) p.address) (λ u. rw u) (λ u. rw u bad_direct)
 
-      bad_swap_found : (x : Search) → bad_of (swap_found m a v p x).machine ≡ bad_of m
+      bad_swap_found : (x : Option ℕ) → bad_of (swap_found m a v p x).machine ≡ bad_of m
       unfolding swap_hit store_hit
-      bad_swap_found (At i) = refl
-      bad_swap_found Nothing = bad_swap_miss
+      bad_swap_found (Some i) = refl
+      bad_swap_found None = bad_swap_miss
 
       bad_swap : bad_of (swap m a v p).machine ≡ bad_of m
       unfolding swap
@@ -107,10 +105,10 @@ module _ (m : Machine) (a : Access) where
     bad_passed (Store v) = bad_store v
     bad_passed (Swap v) = bad_swap v
 
-  bad_at : (x : Checked) → bad_of (access_at m a x).machine ≡ bad_of m
+  bad_at : (x : Result Place Cause) → bad_of (access_at m a x).machine ≡ bad_of m
   unfolding access_at faulted
-  bad_at (Denied s d) = refl
-  bad_at (Passed p) = bad_passed p a.kind
+  bad_at (Err why) = refl
+  bad_at (Ok p) = bad_passed p a.kind
 
 pub bad_access : (m : Machine) (a : Access) → bad_of (access m a).machine ≡ bad_of m
 unfolding access committed

@@ -1,4 +1,5 @@
 -- Walks, placement, flush and drop keep the TLB sound; translations and places are in range.
+use Rattle.std.specs.Prelude.{Option, Some, None, Result, Ok, Err}
 use Prim.Native.Nat.{ℕ, zero, suc, ◌+◌, ◌-◌, ◌*◌, ◌/◌, ◌%◌, ◌^◌, ◌<◌, ◌≤◌}
 use native.Mathlib.Omega.{arith}
 use native.Mathlib.Nat.{pow-suc}
@@ -14,8 +15,6 @@ use Rattle.values.specs.declared.VirtualAddress.{VirtualAddress}
 use Rattle.values.specs.declared.PhysicalAddress.{PhysicalAddress}
 use Rattle.values.specs.declared.Registers.{Registers}
 use Rattle.values.specs.declared.Entry.{Entry}
-use Rattle.values.specs.declared.Search.{Search}
-use Rattle.values.specs.declared.Search.TheVariants.{At, Nothing}
 use Rattle.values.specs.Addresses.{word_of}
 use Rattle.values.specs.Kinds.{is_store}
 use Rattle.values.specs.declared.Access.{Access}
@@ -23,19 +22,15 @@ use Rattle.values.proofs.Cases.{case, clash, and_left}
 use Rattle.values.proofs.Searches.{matched}
 use Rattle.words.specs.Words.{value_at, Bytes}
 use Rattle.rights.specs.Rights.{rights, domain_value}
-use Rattle.bus.specs.declared.Descriptor.{Descriptor}
-use Rattle.bus.specs.declared.Descriptor.TheVariants.{Word, Outside}
 use Rattle.bus.specs.Reader.{descriptor_at}
 use Rattle.bus.specs.Physical.{Physical, aborts}
 use Rattle.bus.proofs.Laws.{descriptor_in, descriptor_out}
-use Rattle.walk.specs.declared.Mapping.{Mapping}
-use Rattle.walk.specs.declared.Mapping.TheVariants as walked
 use Rattle.walk.specs.Ranges.{InRange}
 use Rattle.walk.specs.Walk.{first_address, second_address, domain_of, section_entry, large_entry, small_entry, first, second, walk}
 use Rattle.tlb.specs.Tlb.{base_of, covers, lookup, ap_of, placed, flushed, dropped}
 use Rattle.tlb.proofs.Places.{placed_here, placed_other, length_placed, dropped_at}
 use Rattle.translation.specs.declared.Translation.{Translation}
-use Rattle.translation.specs.declared.Translation.TheVariants.{Flat, Held, Walked, Failed}
+use Rattle.translation.specs.declared.Translation.TheVariants.{Flat, Held, Walked}
 use Rattle.translation.specs.Ranges.{CheckedRanged}
 use Rattle.translation.specs.Translation.{of_walk, of_lookup, translation, entries_after, pointer_after, judged, checked_by, checked, decided}
 use Rattle.translation.specs.Alignment.{alignment_faults, cleared}
@@ -44,6 +39,7 @@ use Rattle.translation.proofs.Laws.{translated_within}
 use Rattle.soundness_laws.proofs.LowBytes.{byte_at}
 use Rattle.soundness_laws.proofs.Elements.{same_at}
 use Rattle.soundness_laws.proofs.TlbParts.{EntryRanges, EntryIs}
+use Rattle.values.specs.declared.Cause.{Cause}
 
 -- ---- a walk
 
@@ -63,9 +59,9 @@ pub record Valid (e : Entry) : Type 0 where
   pub ranges : EntryRanges e
 
 -- what a walk finds: a valid entry in range, or a domain in range
-abbrev pub Finds : Mapping → Type 0
-Finds (walked.Found e) = Valid e
-Finds (walked.Failed s d) = d < 16
+abbrev pub Finds : Result Entry Cause → Type 0
+Finds (Ok e) = Valid e
+Finds (Err why) = why.domain < 16
 
 -- the part of an address that an entry translates: its own part, and no more than it
 base_twice : (size a : ℕ) → base_of size (base_of size a) ≡ base_of size a
@@ -97,20 +93,20 @@ entry_valid e va w hv hw v s eq ep d a =
 
 module _ (m : Physical) (f : Bytes m.bytes) (va : VirtualAddress) (hv : va.0 < 0x100000000) where
   -- a descriptor that is there is a word of 32 bits
-  word_low : (pa : PhysicalAddress) (w : ℕ) → descriptor_at m pa ≡ Word w → w < 0x100000000
+  word_low : (pa : PhysicalAddress) (w : ℕ) → descriptor_at m pa ≡ Some w → w < 0x100000000
   word_low pa w e =
       case (aborts m pa)
-      (λ t. let q : Outside ≡ Word w = sym (descriptor_out m pa t) ∙ e in let z : ◌≡◌ {A = ℕ} 0 1 = cc in absurd (omega arith))
+      (λ t. let q : None ≡ Some w = sym (descriptor_out m pa t) ∙ e in let z : ◌≡◌ {A = ℕ} 0 1 = cc in absurd (omega arith))
       (λ t.
-      let q : Word (value_at 4 m.bytes (word_of pa * 4)) ≡ Word w = sym (descriptor_in m pa t) ∙ e in
+      let q : Some (value_at 4 m.bytes (word_of pa * 4)) ≡ Some w = sym (descriptor_in m pa t) ∙ e in
       let r : value_at 4 m.bytes (word_of pa * 4) ≡ w = cc in
       let l = value_low 4 m.bytes (word_of pa * 4) f in
       omega arith)
 
-  second_finds : (d : ℕ) → d < 16 → (pa : PhysicalAddress) (x : Descriptor) → descriptor_at m pa ≡ x → Finds (second d va x)
+  second_finds : (d : ℕ) → d < 16 → (pa : PhysicalAddress) (x : Option ℕ) → descriptor_at m pa ≡ x → Finds (second d va x)
   unfolding second
-  second_finds d h pa Outside e = h
-  second_finds d h pa (Word w) e =
+  second_finds d h pa None e = h
+  second_finds d h pa (Some w) e =
       case (eqb (w % 4) 1)
       (λ t. rw t (entry_valid (large_entry d w va) va w hv (word_low pa w e) refl (omega arith) refl refl h (omega arith)))
       (λ t.
@@ -118,10 +114,10 @@ module _ (m : Physical) (f : Bytes m.bytes) (va : VirtualAddress) (hv : va.0 < 0
       (λ u. rw (t, u) (entry_valid (small_entry d w va) va w hv (word_low pa w e) refl (omega arith) refl refl h (omega arith)))
       (λ u. rw (t, u) h))
 
-  first_finds : (pa : PhysicalAddress) (x : Descriptor) → descriptor_at m pa ≡ x → Finds (first m va x)
+  first_finds : (pa : PhysicalAddress) (x : Option ℕ) → descriptor_at m pa ≡ x → Finds (first m va x)
   unfolding first
-  first_finds pa Outside e = omega arith
-  first_finds pa (Word w) e =
+  first_finds pa None e = omega arith
+  first_finds pa (Some w) e =
       case (eqb (w % 4) 1)
       (λ t. rw t (second_finds (domain_of w) (omega arith) (second_address w va) (descriptor_at m (second_address w va)) refl))
       (λ t.
@@ -162,18 +158,18 @@ dropped_kept es va f i =
 -- ---- a translation
 
 -- an entry that serves is valid and in range; a fault's domain is in range
-abbrev pub Serves : Translation → Type 0
-Serves Flat = Unit {0}
-Serves (Held e) = Valid e
-Serves (Walked e) = Valid e
-Serves (Failed s d) = d < 16
+abbrev pub Serves : Result Translation Cause → Type 0
+Serves (Ok Flat) = Unit {0}
+Serves (Ok (Held e)) = Valid e
+Serves (Ok (Walked e)) = Valid e
+Serves (Err why) = why.domain < 16
 
-walk_serves : (x : Mapping) → Finds x → Serves (of_walk x)
-walk_serves (walked.Found e) h = h
-walk_serves (walked.Failed s d) h = h
+walk_serves : (x : Result Entry Cause) → Finds x → Serves (of_walk x)
+walk_serves (Ok e) h = h
+walk_serves (Err why) h = h
 
 -- the entry that the lookup finds is valid
-found_valid : (es : List Entry) (va : VirtualAddress) (i : ℕ) → EntriesAre es → lookup es va ≡ At i → Valid (get_or es i empty_entry)
+found_valid : (es : List Entry) (va : VirtualAddress) (i : ℕ) → EntriesAre es → lookup es va ≡ Some i → Valid (get_or es i empty_entry)
 unfolding lookup covers
 found_valid es va i f e =
     let m = matched (covers va) 0 es empty_entry i e in
@@ -184,32 +180,32 @@ found_valid es va i f e =
     record { valid = v; ranges = (f i).ranges v }
 
 module _ (es : List Entry) (r : Registers) (m : Physical) (va : VirtualAddress) (f : EntriesAre es) (b : Bytes m.bytes) (hv : va.0 < 0x100000000) where
-  lookup_serves : (x : Search) → lookup es va ≡ x → Serves (of_lookup es r m va x)
-  lookup_serves (At i) e = found_valid es va i f e
-  lookup_serves Nothing e = walk_serves (walk m r.base va) (walk_finds m b va hv r.base)
+  lookup_serves : (x : Option ℕ) → lookup es va ≡ x → Serves (of_lookup es r m va x)
+  lookup_serves (Some i) e = found_valid es va i f e
+  lookup_serves None e = walk_serves (walk m r.base va) (walk_finds m b va hv r.base)
 
   pub translation_serves : Serves (translation es r m va)
   unfolding translation
   translation_serves = case (mmu r) (λ t. rw t (lookup_serves (lookup es va) refl)) (λ t. rw t tt)
 
 -- the TLB after it
-pub after_kept : (es : List Entry) (p : ℕ) (t : Translation) → p < length es → EntriesAre es → Serves t → EntriesAre (entries_after es p t)
-after_kept es p Flat h f k = f
-after_kept es p (Held e) h f k = f
-after_kept es p (Walked e) h f k = placed_kept es p e h f k
-after_kept es p (Failed s d) h f k = f
+pub after_kept : (es : List Entry) (p : ℕ) (t : Result Translation Cause) → p < length es → EntriesAre es → Serves t → EntriesAre (entries_after es p t)
+after_kept es p (Ok Flat) h f k = f
+after_kept es p (Ok (Held e)) h f k = f
+after_kept es p (Ok (Walked e)) h f k = placed_kept es p e h f k
+after_kept es p (Err why) h f k = f
 
-pub length_after : (es : List Entry) (p : ℕ) (t : Translation) → length (entries_after es p t) ≡ length es
-length_after es p Flat = refl
-length_after es p (Held e) = refl
-length_after es p (Walked e) = length_placed es p e
-length_after es p (Failed s d) = refl
+pub length_after : (es : List Entry) (p : ℕ) (t : Result Translation Cause) → length (entries_after es p t) ≡ length es
+length_after es p (Ok Flat) = refl
+length_after es p (Ok (Held e)) = refl
+length_after es p (Ok (Walked e)) = length_placed es p e
+length_after es p (Err why) = refl
 
-pub pointer_after_lem : (p : ℕ) (t : Translation) → p ≤ 31 → pointer_after p t ≤ 31
-pointer_after_lem p Flat h = h
-pointer_after_lem p (Held e) h = h
-pointer_after_lem p (Walked e) h = omega arith
-pointer_after_lem p (Failed s d) h = h
+pub pointer_after_lem : (p : ℕ) (t : Result Translation Cause) → p ≤ 31 → pointer_after p t ≤ 31
+pointer_after_lem p (Ok Flat) h = h
+pointer_after_lem p (Ok (Held e)) h = h
+pointer_after_lem p (Ok (Walked e)) h = omega arith
+pointer_after_lem p (Err why) h = h
 
 -- ---- the place, or the fault
 
@@ -249,11 +245,11 @@ module _ (r : Registers) (a : Access) where
       let va = cleared a in
       judged_ranged va (rights (domain_value r.domains e.domain) (ap_of e va) (system r) (rom r) a.privileged (is_store a.kind)) e h
 
-  pub checked_ranged : (t : Translation) → Serves t → CheckedRanged (cleared a) (checked r a t)
-  checked_ranged Flat h = record { domain = omega arith; within = refl }
-  checked_ranged (Held e) h = by_ranged e h
-  checked_ranged (Walked e) h = by_ranged e h
-  checked_ranged (Failed s d) h = h
+  pub checked_ranged : (t : Result Translation Cause) → Serves t → CheckedRanged (cleared a) (checked r a t)
+  checked_ranged (Ok Flat) h = record { domain = omega arith; within = refl }
+  checked_ranged (Ok (Held e)) h = by_ranged e h
+  checked_ranged (Ok (Walked e)) h = by_ranged e h
+  checked_ranged (Err why) h = h
 
 -- ---- what is decided of an access
 
@@ -262,7 +258,7 @@ pub record Decides (a : Access) (d : Decision) : Type 0 where
   pub serves : Serves d.mapping
   pub ranged : CheckedRanged (cleared a) d.checked
 
-pub decided_ranged : (r : Registers) (a : Access) (t : Translation) → Serves t → Decides a (decided r a t)
+pub decided_ranged : (r : Registers) (a : Access) (t : Result Translation Cause) → Serves t → Decides a (decided r a t)
 unfolding decided
 decided_ranged r a t s =
     case (alignment_faults r a)

@@ -1,7 +1,7 @@
 // Refusal 3, "The state is unsound": each clause as a test over the lent words.
 #![tactic(auto)]
 
-ghost use Rattle.std.specs.Prelude.{◌≡◌, List, ℕ, ◌+◌, ◌*◌, ◌/◌, ◌%◌, ◌<◌, ◌&&◌, length, eqb};
+ghost use Rattle.std.specs.Prelude.{◌≡◌, List, ℕ, ◌+◌, ◌*◌, ◌/◌, ◌%◌, ◌<◌, length, eqb};
 ghost use Rattle.values.specs.Lists.{all, sum};
 ghost use Rattle.tlb.specs.Tlb.{base_of};
 ghost use Rattle.tlb.specs.Packing.{entry_of, entries_of};
@@ -16,13 +16,11 @@ use values::{Count, Counts, Cp15, Line, Registers};
 fn base_sound(size: u64, page: u64) -> bool
     ensures { result ≡ eqb (base_of size (page * 0x1000)) (page * 0x1000) }
 {
-    if size == 0 {
-        return page % 0x100 == 0;
+    match size {
+        0 => page % 0x100 == 0,
+        1 => page % 16 == 0,
+        _ => true,
     }
-    if size == 1 {
-        return page % 16 == 0;
-    }
-    true
 }
 
 // Whether the fields of a valid entry are in range.
@@ -30,81 +28,44 @@ fn fields_sound(w: u64) -> bool
     ensures { result ≡ spec.entry_in_range (entry_of w) }
 {
     let size = w / 8 % 32;
-    if size >= 3 {
-        return false;
-    }
-    if w / 0x100 % 0x100 >= 16 {
-        return false;
-    }
-    if base_sound(size, w / 0x100000000000) {
-        return base_sound(size, w / 0x1000000 % 0x100000);
-    }
-    false
+    size < 3
+        && w / 0x100 % 0x100 < 16
+        && base_sound(size, w / 0x100000000000)
+        && base_sound(size, w / 0x1000000 % 0x100000)
 }
 
 // Whether a word stands for an empty entry, or for a valid one whose fields are in range.
 fn entry_sound(w: u64) -> bool
     ensures { result ≡ spec.entry_sound (entry_of w) }
 {
-    if w % 2 == 1 {
-        return fields_sound(w);
-    }
-    w == 0
+    if w % 2 == 1 { fields_sound(w) } else { w == 0 }
 }
 
 // Whether every entry is sound.
 fn entries_sound(entries: &[u64]) -> bool
     ensures { result ≡ all spec.entry_sound (entries_of entries.now) }
 {
-    let mut i: usize = 0;
-    while i < entries.len() {
-        if entry_sound(entries[i]) {
-            i += 1;
-        } else {
-            return false;
-        }
-    }
-    true
+    entries.iter().all(|&w| entry_sound(w))
 }
 
 // Whether the counts are at most the calls, the dirty halves with the halves sent out.
 fn counts_sound(c: Counts, dirty: Count) -> bool
     ensures { (lines : List Line) → dirty ≡ sum dcache.dirty_halves lines → result ≡ spec.counts_sound c lines }
 {
-    if c.misses > c.calls {
-        return false;
-    }
-    if c.hits > c.calls {
-        return false;
-    }
-    if c.fills > c.calls {
-        return false;
-    }
-    c.halves as u64 + dirty as u64 <= c.calls as u64
+    c.misses <= c.calls
+        && c.hits <= c.calls
+        && c.fills <= c.calls
+        && c.halves as u64 + dirty as u64 <= c.calls as u64
 }
 
 // Whether control has only bits that are kept and a listed combination, and each register lies in its range.
 fn registers_sound(r: Registers) -> bool
     ensures { result ≡ spec.registers_sound r }
 {
-    if registers::kept(r.control) == r.control {
-        if registers::is_listed(r.control) {
-            if r.base % 0x4000 == 0 {
-                return r.fsr < 256;
-            }
-        }
-    }
-    false
-}
-
-// Whether two tests hold.
-fn both(a: bool, b: bool) -> bool
-    ensures { result ≡ (a && b) }
-{
-    if a {
-        return b;
-    }
-    false
+    registers::kept(r.control) == r.control
+        && registers::is_listed(r.control)
+        && r.base % 0x4000 == 0
+        && r.fsr < 256
 }
 
 // Whether the state is sound: the record's registers and pointer, the lent lists, the number of buffer entries and the counts, for a memory of n bytes.
@@ -123,12 +84,12 @@ pub fn sound(
     ensures { (memory bad store : List ℕ) (size : ℕ) → length memory ≡ n → result ≡ spec.sound
         (machine_from cp15 (entries_of entries.now) (side_of memory bad words.now bytes.now used lines.now pointers.now store) counts size) }
 {
-    let numbers = counts_sound(counts, lines_test::dirty_halves(lines));
-    let record = both(registers_sound(cp15.registers), numbers);
-    let tlb = both(entries_sound(entries), record);
-    let buffer = both(buffer_test::buffer_sound(words, bytes, used, n), tlb);
-    let each_line = both(lines_test::lines_sound(lines, n), buffer);
-    let tags = both(tags_test::tags_sound(lines), each_line);
-    let sets = both(lines_test::pointers_sound(pointers), tags);
-    both(cp15.pointer <= 31, sets)
+    cp15.pointer <= 31
+        && lines_test::pointers_sound(pointers)
+        && lines_test::lines_sound(lines, n)
+        && tags_test::tags_sound(lines)
+        && buffer_test::buffer_sound(words, bytes, used, n)
+        && entries_sound(entries)
+        && registers_sound(cp15.registers)
+        && counts_sound(counts, lines_test::dirty_halves(lines))
 }

@@ -5,10 +5,12 @@ ghost use Rattle.std.specs.Prelude.{◌≡◌, List, ℕ, length};
 ghost use Rattle.values.specs.Registers.{zero_cp15};
 ghost use Rattle.machine.specs.Machine as machines;
 ghost use Rattle.soundness.specs.Soundness.{sound};
+ghost use Rattle.refusals.specs.Numbers.{refusal_code};
 ghost use Rattle.step.specs.Meets.{state_refusal};
 ghost use Rattle.step.specs.Start as starts;
 ghost use Rattle.state.specs.State.{bytes_of, machine_in, started_of};
 
+use refusals::Refusal;
 use values::{Counts, Cp15};
 
 // The sixteen bytes of a place of the write buffer.
@@ -18,7 +20,8 @@ pub struct SlotBytes {
     pub bytes: [u8; 16],
 }
 
-// The state: the memory's length at the start, the counts, the number of buffer entries, and the words of TLB, Dcache and write buffer.
+// The state: the memory's length at the start, the counts, the number of buffer entries, and the words of TLB, Dcache and write buffer. C lends it: arrays,
+// and a number of entries beside theirs.
 #[repr(C)]
 #[derive(Clone, Copy)]
 pub struct State {
@@ -37,12 +40,8 @@ pub fn unpacked(slots: [SlotBytes; 8]) -> [[u8; 16]; 8]
     ensures { result ≡ bytes_of slots }
 {
     let mut out = [[0u8; 16]; 8];
-    let mut i: usize = 0;
-    while i < 8 {
-        let s = slots[i];
-        let b = s.bytes;
-        out[i] = b;
-        i += 1;
+    for i in 0..8 {
+        out[i] = slots[i].bytes;
     }
     out
 }
@@ -53,11 +52,8 @@ pub fn packed(bytes: [[u8; 16]; 8]) -> [SlotBytes; 8]
 {
     let zero = SlotBytes { bytes: [0u8; 16] };
     let mut out = [zero; 8];
-    let mut i: usize = 0;
-    while i < 8 {
-        let b = bytes[i];
-        out[i] = SlotBytes { bytes: b };
-        i += 1;
+    for i in 0..8 {
+        out[i] = SlotBytes { bytes: bytes[i] };
     }
     out
 }
@@ -78,27 +74,31 @@ pub fn is_sound(state: State, cp15: Cp15, n: usize) -> bool
     )
 }
 
-// Refusals 1 to 4 and 16 of a call, or 0.
-pub fn state_refusal(state: State, cp15: Cp15, memory: &[u8], bad: &[u8], store: &[u8]) -> u32
-    ensures { result ≡ state_refusal (machine_in memory.now bad.now store.now state cp15) }
+// Refusals 1 to 4 and 16 of a call, in this order.
+pub fn state_refusal(
+    state: State,
+    cp15: Cp15,
+    memory: &[u8],
+    bad: &[u8],
+    store: &[u8],
+) -> Result<(), Refusal>
+    ensures { refusal_code result ≡ state_refusal (machine_in memory.now bad.now store.now state cp15) }
 {
-    let n = refusals::lent_refusal(memory.len(), store.len());
-    if n != 0 {
-        return n;
+    refusals::lent_refusal(memory.len(), store.len())?;
+    if !is_sound(state, cp15, memory.len()) {
+        return Err(Refusal::State);
     }
-    if is_sound(state, cp15, memory.len()) {
-        if state.size == memory.len() {
-            if refusals::map_fits(memory.len(), bad) {
-                return 0;
-            }
-            return 16;
-        }
-        return 4;
+    if state.size != memory.len() {
+        return Err(Refusal::Length);
     }
-    3
+    if !refusals::map_fits(memory.len(), bad) {
+        return Err(Refusal::Map);
+    }
+    Ok(())
 }
 
 // What a start leaves: a fresh state and a record of zeros, and refusal 1 or 2, or 0.
+// A number: C reads it, and a refused start has a state of zeros beside it.
 #[derive(Clone, Copy)]
 pub struct Started {
     pub state: State,
@@ -110,22 +110,15 @@ pub struct Started {
 pub fn fresh(size: usize) -> State
     ensures { (memory bad store : List ℕ) → machine_in memory bad store result zero_cp15 ≡ machines.fresh size memory bad store }
 {
-    let counts = values::zero_counts();
-    let zero = SlotBytes { bytes: [0u8; 16] };
-    let entries = [0u64; 32];
-    let lines = [0u64; 512];
-    let pointers = [0u32; 16];
-    let words = [0u64; 8];
-    let slots = [zero; 8];
     State {
         size,
-        counts,
+        counts: values::zero_counts(),
         used: 0,
-        entries,
-        lines,
-        pointers,
-        words,
-        slots,
+        entries: [0; 32],
+        lines: [0; 512],
+        pointers: [0; 16],
+        words: [0; 8],
+        slots: [SlotBytes { bytes: [0; 16] }; 8],
     }
 }
 
@@ -135,17 +128,16 @@ pub fn start(memory: &[u8], store: &[u8]) -> Started
         ≡ starts.started memory.now bad store.now }
 {
     let cp15 = values::zero_cp15();
-    let refusal = refusals::lent_refusal(memory.len(), store.len());
-    if refusal == 0 {
-        return Started {
+    match refusals::lent_refusal(memory.len(), store.len()) {
+        Ok(()) => Started {
             state: fresh(memory.len()),
             cp15,
-            refusal,
-        };
-    }
-    Started {
-        state: fresh(0),
-        cp15,
-        refusal,
+            refusal: 0,
+        },
+        Err(r) => Started {
+            state: fresh(0),
+            cp15,
+            refusal: u32::from(r),
+        },
     }
 }

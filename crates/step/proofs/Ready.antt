@@ -5,7 +5,7 @@ use mathlib.Core.Bool.{true, ◌||◌}
 use mathlib.Core.Path.{◌≡◌, refl, sym, ◌∙◌, ap, subst}
 use mathlib.Core.List.{List, ◌∷◌}
 use lib.ListN.{length, length-map, get_or}
-use borrow.Author.Tests.{eq-eqb, ne_eqb}
+use borrow.Author.Tests.{ne_eqb}
 use Rattle.values.specs.Lists.{sum}
 use Rattle.values.specs.Control.{kept}
 use Rattle.values.specs.Empty.{empty_entry, empty_line}
@@ -23,7 +23,7 @@ use Rattle.buffer.specs.Ranges.{Fits}
 use Rattle.cache.specs.Dcache.{dirty_halves}
 use Rattle.cache.specs.Packing.{line_of, lines_of}
 use Rattle.cache.proofs.Lines.{line_at}
-use Rattle.refusals.proofs.Rows.{row_met, row_unmet, rows_unmet}
+use Rattle.refusals.proofs.Rows.{rows_unmet}
 use Rattle.soundness_test.specs.Meaning.{IsSound}
 use Rattle.soundness_laws.proofs.TlbKept.{in_range}
 use Rattle.soundness_laws.proofs.Reader.{sound_means}
@@ -31,14 +31,13 @@ use Rattle.step.specs.Meets.{state_meets, state_refusal, refusal}
 use Rattle.step.proofs.StateRefusals.{not_state_refused, lengths_fit, state_numbered, refusal_rows}
 use Rattle.step.specs.Call.{done, served}
 use Rattle.step.specs.Code.{Serves}
-use Rattle.refusals.specs.Refusals.{refusal_in, row5, call_rows, call_refusal}
+use Rattle.refusals.specs.Refusals.{refusal_in, row5, call_rows}
 use Rattle.machine.specs.declared.Outcome.{Outcome}
 use Rattle.machine.specs.declared.Scalars.{Scalars}
 use Rattle.machine.specs.Lists.{Lists, machine_of, stepped_of}
 use Rattle.machine.specs.Ready.{TlbReady, SideReady, CleanReady}
 use Rattle.machine.specs.Scalars.{with_counts, outcome_from}
 use Rattle.machine.specs.Machine.{Machine}
-use Rattle.values.specs.Rows.{Row}
 use Rattle.values.specs.Counts.{count_limit, counted}
 
 -- the scalars with another call
@@ -186,31 +185,17 @@ module _ (l : Lists) (es : List ℕ) (s : Scalars) (n : ℕ) (k : Serves (machin
       let f = k.formed in
       sym (not_state_refused here (lengths_fit (length l.memory) f.memory_lines f.memory_short) f.store_long k.is_sound k.size k.map_fits_lem)
 
-  module _ (c : Call) where
-    abbrev later : List (Row ℕ)
-    later = row5 s.counts.calls ∷ call_rows c
+  module _ (c : Call) (x : ℕ) (e : x ≡ refusal_in (row5 s.counts.calls ∷ call_rows c)) where
+    by_later : refusal here c ≡ x
+    by_later = refusal_rows here c ∙ rows_unmet (state_meets here) (row5 s.counts.calls ∷ call_rows c) (state_numbered here) no_state_refusal ∙ sym e
 
-    by_later : refusal here c ≡ refusal_in later
-    by_later = refusal_rows here c ∙ rows_unmet (state_meets here) later (state_numbered here) no_state_refusal
-
-    pub refused_five : (o : Outcome) → o ≡ outcome_from s (answer.Refused 5) → s.counts.calls ≡ count_limit → stepped_of l es n o ≡ served here c
+    pub refused_by_lem : (x ≡ 0 → ⊥) → (o : Outcome) → o ≡ outcome_from s (answer.Refused x) → stepped_of l es n o ≡ served here c
     unfolding served
-    refused_five o g e =
-        let f : refusal here c ≡ 5 = by_later ∙ row_met (row5 s.counts.calls) (call_rows c) (eq-eqb s.counts.calls count_limit e) in
-        ap (λ (x : Outcome). stepped_of l es n x) g ∙ rw f
+    refused_by_lem z o e' = ap (λ (y : Outcome). stepped_of l es n y) e' ∙ rw (by_later, ne_eqb x 0 z)
 
-    module _ (e : s.counts.calls ≡ count_limit → ⊥) where
-      by_call : refusal here c ≡ call_refusal c
-      by_call = by_later ∙ row_unmet (row5 s.counts.calls) (call_rows c) (ne_eqb s.counts.calls count_limit e)
-
-      pub refused_by_lem : (x : ℕ) → x ≡ call_refusal c → (x ≡ 0 → ⊥) → (o : Outcome) → o ≡ outcome_from s (answer.Refused x)
-          → stepped_of l es n o ≡ served here c
-      unfolding served
-      refused_by_lem x f z o e' = let g : refusal here c ≡ x = by_call ∙ sym f in ap (λ (y : Outcome). stepped_of l es n y) e' ∙ rw (g, ne_eqb x 0 z)
-
-      pub not_refused : call_refusal c ≡ 0 → served here c ≡ done (machine_of l es (counted_by s) n) c
-      unfolding served
-      not_refused f = let g : refusal here c ≡ 0 = by_call ∙ f in rw g
+    pub not_refused : x ≡ 0 → served here c ≡ done (machine_of l es (counted_by s) n) c
+    unfolding served
+    not_refused z = rw (by_later, z)
 
 -- another call leaves what a clean asks as it is
 pub clean_counted : (memory words : List ℕ) (bytes : List (List ℕ)) (lines store : List ℕ) (s : Scalars)

@@ -38,13 +38,10 @@ numbers_of_lem k p w x v h g =
 
 -- ---- the loop
 
--- the lists are as long as they were
+-- memory, the buffer's words and the TLB's are as long as they were
 pub record SameLengths (l₀ l : Lists) (es₀ es : List ℕ) : Type 0 where
   pub memory : length l.memory ≡ length l₀.memory
   pub words : length l.words ≡ length l₀.words
-  pub lines : length l.lines ≡ length l₀.lines
-  pub pointers : length l.pointers ≡ length l₀.pointers
-  pub store : length l.store ≡ length l₀.store
   pub entries : length es ≡ length es₀
 
 -- what holds before each turn of the loop
@@ -63,7 +60,7 @@ module _ (l₀ : Lists) (es₀ calls answers₀ : List ℕ) (s₀ : Scalars) (n 
   going_start w b k =
       record {
         low = omega arith;
-        same = record { memory = refl; words = refl; lines = refl; pointers = refl; store = refl; entries = refl };
+        same = record { memory = refl; words = refl; entries = refl };
         long = refl;
         words_long = w;
         bytes_long = b;
@@ -103,9 +100,6 @@ module _ (l₀ : Lists) (es₀ calls answers₀ : List ℕ) (s₀ : Scalars) (n 
           same = record {
             memory = y.memory ∙ g.same.memory;
             words = y.words ∙ g.same.words;
-            lines = y.lines ∙ g.same.lines;
-            pointers = y.pointers ∙ g.same.pointers;
-            store = y.store ∙ g.same.store;
             entries = y.entries ∙ g.same.entries;
           };
           long = length-set answers i a ∙ g.long;

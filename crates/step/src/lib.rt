@@ -1,73 +1,68 @@
 // One call, and a list of calls, on lent lists that refusals 1 to 4 and 16 do not hold of.
 #![tactic(auto)]
 
-ghost use Rattle.std.specs.Prelude.{◌≡◌, List, ℕ, ◌+◌, ◌*◌, ◌<◌, ◌≤◌, length};
-ghost use Rattle.machine.specs.Lists.{Lists, lists, machine_of, stepped_of};
+ghost use Rattle.std.specs.Prelude.{◌≡◌, ◌∷◌, List, ℕ, ◌+◌, ◌*◌, ◌<◌, ◌≤◌, length, OnOk};
+ghost use Rattle.machine.specs.Lists.{Lists, machine_of, stepped_of, lists_of, Kept};
 ghost use Rattle.machine.specs.Ready.{CleanReady};
 ghost use Rattle.machine.specs.Scalars.{outcome_from};
 ghost use Rattle.values.specs.Counts.{count_limit};
+ghost use Rattle.refusals.specs.Numbers.{number_of, refusal_code};
+ghost use Rattle.refusals.specs.Refusals.{refusal_in, row5, call_rows};
 ghost use Rattle.step.specs.Call as spec;
 ghost use Rattle.step.specs.Run as runs;
 ghost use Rattle.step.specs.Code.{Serves, Ready, Steps};
 ghost use Rattle.trace.specs.Calls.{call_at};
 ghost use Rattle.trace.specs.Fold.{calls_in, Holds, leaves};
 
-use machine::{Outcome, Scalars};
-use values::{Access, Answer, Call, Transfer};
-
-// Refusal 5: the calls are at their limit.
-const NO_MORE_CALLS: u32 = 5;
+use machine::{Lent, Outcome, Scalars};
+use refusals::Refusal;
+use values::{Access, Answer, Call, Count, Transfer};
 
 // A refused call changes nothing.
-fn refused(s: Scalars, n: u32) -> Outcome
-    ensures { result ≡ outcome_from s (Answer.Refused n) }
+fn refused(s: Scalars, r: Refusal) -> Outcome
+    ensures { result ≡ outcome_from s (Answer.Refused (number_of r)) }
 {
     Outcome {
         scalars: s,
-        answer: Answer::Refused(n),
+        answer: Answer::Refused(u32::from(r)),
     }
+}
+
+// Refusals 5 to 7 of an access.
+#[tactic(auto, unfolding(values::specs::Rows::first_met))]
+fn access_refusal(calls: Count, a: Access) -> Result<(), Refusal>
+    ensures number { refusal_code result ≡ refusal_in (row5 calls ∷ call_rows (Call.Access a)) }
+    ensures low { OnOk result (calls < count_limit) }
+{
+    refusals::count_refusal(calls)?;
+    refusals::access_refusal(a)
+}
+
+// Refusals 5 to 12 of a call.
+#[tactic(auto, unfolding(values::specs::Rows::first_met))]
+fn call_refusal(calls: Count, c: Call) -> Result<(), Refusal>
+    ensures number { refusal_code result ≡ refusal_in (row5 calls ∷ call_rows c) }
+    ensures low { OnOk result (calls < count_limit) }
+{
+    refusals::count_refusal(calls)?;
+    refusals::call_refusal(c)
 }
 
 // An access.
 fn access_step(
     table: &[u8; 256],
-    memory: &mut [u8],
-    bad: &[u8],
-    words: &mut [u64],
-    bytes: &mut [[u8; 16]; 8],
-    lines: &mut [u64],
-    pointers: &mut [u32],
-    store: &mut [u8],
+    side: &mut Lent,
     entries: &mut [u64],
     s: Scalars,
     a: Access,
 ) -> Outcome
-    requires { Ready table.now (lists memory.old bad.now words.old bytes.old lines.old pointers.old store.old) entries.old s }
-    ensures { Steps (lists memory.old bad.now words.old bytes.old lines.old pointers.old
-        store.old) entries.old s (Call.Access a)
-        (lists memory.new bad.now words.new bytes.new lines.new pointers.new
-        store.new) entries.new result }
+    requires { Ready table.now (lists_of side.old) entries.old s }
+    ensures { Steps (lists_of side.old) entries.old s (Call.Access a) (lists_of side.new) entries.new result × Kept side.old side.new }
 {
-    if s.counts.calls == values::COUNT_LIMIT {
-        return refused(s, NO_MORE_CALLS);
+    if let Err(r) = access_refusal(s.counts.calls, a) {
+        return refused(s, r);
     }
-    let n = refusals::access_refusal(a);
-    if n != 0 {
-        return refused(s, n);
-    }
-    access::serve(
-        table,
-        memory,
-        bad,
-        words,
-        bytes,
-        lines,
-        pointers,
-        store,
-        entries,
-        machine::counted(s),
-        a,
-    )
+    access::serve(table, side, entries, machine::counted(s), a)
 }
 
 // A CP15 read.
@@ -76,116 +71,50 @@ fn read_step(s: Scalars, t: Transfer) -> Outcome
     ensures { (l : Lists) (entries : List ℕ) (size : ℕ) → Serves (machine_of l entries s size)
         → stepped_of l entries size result ≡ spec.served (machine_of l entries s size) (Call.Read t) }
 {
-    if s.counts.calls == values::COUNT_LIMIT {
-        return refused(s, NO_MORE_CALLS);
-    }
-    let n = refusals::call_refusal(Call::Read(t));
-    if n != 0 {
-        return refused(s, n);
+    if let Err(r) = call_refusal(s.counts.calls, Call::Read(t)) {
+        return refused(s, r);
     }
     cp15::read(machine::counted(s), t)
 }
 
 // A CP15 write.
-fn write_step(
-    memory: &mut [u8],
-    bad: &[u8],
-    words: &mut [u64],
-    bytes: &mut [[u8; 16]; 8],
-    lines: &mut [u64],
-    store: &[u8],
-    entries: &mut [u64],
-    s: Scalars,
-    t: Transfer,
-    v: u32,
-) -> Outcome
-    requires { (length entries.old ≡ 32) × (length bytes.old ≡ 8)
-        × (s.counts.calls < count_limit → CleanReady memory.old words.old bytes.old lines.old store.now s) }
-    ensures { ((pointers : List ℕ) (size : ℕ)
-        → Serves (machine_of
-        (lists memory.old bad.now words.old bytes.old lines.old pointers store.now)
-        entries.old s size)
-        → stepped_of
-        (lists memory.new bad.now words.new bytes.new lines.new pointers store.now)
-        entries.new size result
-        ≡ spec.served
-        (machine_of
-        (lists memory.old bad.now words.old bytes.old lines.old pointers store.now)
-        entries.old s size)
-        (Call.Write t v))
-        × (length bytes.new ≡ 8) }
+fn write_step(side: &mut Lent, entries: &mut [u64], s: Scalars, t: Transfer, v: u32) -> Outcome
+    requires { (length entries.old ≡ 32) × (length side.old.bytes.now ≡ 8)
+        × (s.counts.calls < count_limit → CleanReady side.old.memory.now side.old.words.now side.old.bytes.now side.old.lines.now side.old.store.now s) }
+    ensures { ((size : ℕ) → Serves (machine_of (lists_of side.old) entries.old s size)
+        → stepped_of (lists_of side.new) entries.new size result
+        ≡ spec.served (machine_of (lists_of side.old) entries.old s size) (Call.Write t v))
+        × (length side.new.bytes.now ≡ 8) × Kept side.old side.new }
 {
-    if s.counts.calls == values::COUNT_LIMIT {
-        return refused(s, NO_MORE_CALLS);
+    if let Err(r) = call_refusal(s.counts.calls, Call::Write(t, v)) {
+        return refused(s, r);
     }
-    let n = refusals::call_refusal(Call::Write(t, v));
-    if n != 0 {
-        return refused(s, n);
-    }
-    cp15::write(
-        memory,
-        bad,
-        words,
-        bytes,
-        lines,
-        store,
-        entries,
-        machine::counted(s),
-        t,
-        v,
-    )
+    cp15::write(side, entries, machine::counted(s), t, v)
 }
 
 // A call on a machine that refusals 1 to 4 and 16 do not hold of.
-pub fn step(
-    table: &[u8; 256],
-    memory: &mut [u8],
-    bad: &[u8],
-    words: &mut [u64],
-    bytes: &mut [[u8; 16]; 8],
-    lines: &mut [u64],
-    pointers: &mut [u32],
-    store: &mut [u8],
-    entries: &mut [u64],
-    s: Scalars,
-    c: Call,
-) -> Outcome
-    requires { Ready table.now (lists memory.old bad.now words.old bytes.old lines.old pointers.old store.old) entries.old s }
-    ensures { Steps (lists memory.old bad.now words.old bytes.old lines.old pointers.old
-        store.old) entries.old s c
-        (lists memory.new bad.now words.new bytes.new lines.new pointers.new
-        store.new) entries.new result }
+pub fn step(table: &[u8; 256], side: &mut Lent, entries: &mut [u64], s: Scalars, c: Call) -> Outcome
+    requires { Ready table.now (lists_of side.old) entries.old s }
+    ensures { Steps (lists_of side.old) entries.old s c (lists_of side.new) entries.new result × Kept side.old side.new }
 {
     match c {
-        Call::Access(a) => access_step(
-            table, memory, bad, words, bytes, lines, pointers, store, entries, s, a,
-        ),
+        Call::Access(a) => access_step(table, side, entries, s, a),
         Call::Read(t) => read_step(s, t),
-        Call::Write(t, v) => write_step(memory, bad, words, bytes, lines, store, entries, s, t, v),
+        Call::Write(t, v) => write_step(side, entries, s, t, v),
     }
 }
 
 // Call i of a list: its numbers become the access or the transfer, with no call between them that a compiler would keep in memory.
 fn step_at(
     table: &[u8; 256],
-    memory: &mut [u8],
-    bad: &[u8],
-    words: &mut [u64],
-    bytes: &mut [[u8; 16]; 8],
-    lines: &mut [u64],
-    pointers: &mut [u32],
-    store: &mut [u8],
+    side: &mut Lent,
     entries: &mut [u64],
     s: Scalars,
     calls: &[u32],
     i: usize,
 ) -> Outcome
-    requires { Ready table.now (lists memory.old bad.now words.old bytes.old lines.old pointers.old store.old) entries.old s
-        × (i * 5 + 5 ≤ length calls.now) }
-    ensures { Steps (lists memory.old bad.now words.old bytes.old lines.old pointers.old
-        store.old) entries.old s (call_at calls.now i)
-        (lists memory.new bad.now words.new bytes.new lines.new pointers.new
-        store.new) entries.new result }
+    requires { Ready table.now (lists_of side.old) entries.old s × (i * 5 + 5 ≤ length calls.now) }
+    ensures { Steps (lists_of side.old) entries.old s (call_at calls.now i) (lists_of side.new) entries.new result × Kept side.old side.new }
 {
     let kind = calls[i * 5];
     if kind == 3 {
@@ -193,34 +122,18 @@ fn step_at(
     }
     if kind == 4 {
         return write_step(
-            memory,
-            bad,
-            words,
-            bytes,
-            lines,
-            store,
+            side,
             entries,
             s,
             trace::transfer_at(calls, i),
             calls[i * 5 + 4],
         );
     }
-    access_step(
-        table,
-        memory,
-        bad,
-        words,
-        bytes,
-        lines,
-        pointers,
-        store,
-        entries,
-        s,
-        trace::access_at(calls, i),
-    )
+    access_step(table, side, entries, s, trace::access_at(calls, i))
 }
 
-// The scalars after a run, and how many calls were made.
+// The scalars after a run, and how many calls were made. Three loops go over a list of calls, one over each state (run_calls here and in plain) and one
+// over none (refuse_calls): what a loop over a closure would share is the test of a call and the store of its code, two lines.
 #[derive(Clone, Copy)]
 pub struct Folded {
     pub scalars: Scalars,
@@ -230,70 +143,49 @@ pub struct Folded {
 // The first n calls of a list, on a machine that refusals 1 to 4 and 16 do not hold of: none of them holds of a machine that a call leaves.
 pub fn run_calls(
     table: &[u8; 256],
-    memory: &mut [u8],
-    bad: &[u8],
-    words: &mut [u64],
-    bytes: &mut [[u8; 16]; 8],
-    lines: &mut [u64],
-    pointers: &mut [u32],
-    store: &mut [u8],
+    side: &mut Lent,
     entries: &mut [u64],
     first: Scalars,
     calls: &[u32],
     answers: &mut [u64],
     n: usize,
 ) -> Folded
-    requires { Ready table.now (lists memory.old bad.now words.old bytes.old lines.old pointers.old store.old) entries.old first
-        × Holds calls.now answers.old n }
-    ensures { leaves
-        (machine_of (lists memory.new bad.now words.new bytes.new lines.new pointers.new
-        store.new)
-        entries.new result.scalars (length memory.old))
+    requires { Ready table.now (lists_of side.old) entries.old first × Holds calls.now answers.old n }
+    ensures { (leaves (machine_of (lists_of side.new) entries.new result.scalars (length side.old.memory.now))
         answers.new result.made
-        ≡ runs.left_by
-        (machine_of
-        (lists memory.old bad.now words.old bytes.old lines.old pointers.old
-        store.old)
-        entries.old first (length memory.old))
-        (calls_in n calls.now 0) answers.old }
+        ≡ runs.left_by (machine_of (lists_of side.old) entries.old first (length side.old.memory.now))
+        (calls_in n calls.now 0) answers.old) × Kept side.old side.new }
 {
     let mut s = first;
-    let mut i: usize = 0;
-    while i < n {
+    for i in 0..n {
         if !trace::is_call_at(calls, i) {
             return Folded {
                 scalars: s,
                 made: i,
             };
         }
-        let o = step_at(
-            table, memory, bad, words, bytes, lines, pointers, store, entries, s, calls, i,
-        );
-        let a = o.answer;
-        answers[i] = trace::code(a);
-        let t = o.scalars;
-        s = t;
-        i += 1;
+        let o = step_at(table, side, entries, s, calls, i);
+        answers[i] = trace::code(o.answer);
+        s = o.scalars;
     }
     Folded {
         scalars: s,
-        made: i,
+        made: n,
     }
 }
 
 // The first n calls of a list, each refused by the number. It answers how many calls there were.
+// A number and no Refusal: the promise is for every number.
 pub fn refuse_calls(calls: &[u32], answers: &mut [u64], n: usize, refusal: u32) -> usize
     requires { Holds calls.now answers.old n }
     ensures { leaves {S = Unit {0}} tt answers.new result
         ≡ runs.refused_all {S = Unit {0}} refusal tt (calls_in n calls.now 0) answers.old }
 {
-    let mut i: usize = 0;
-    while i < n {
+    for i in 0..n {
         if !trace::is_call_at(calls, i) {
             return i;
         }
         answers[i] = trace::code(Answer::Refused(refusal));
-        i += 1;
     }
-    i
+    n
 }

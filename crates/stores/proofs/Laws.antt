@@ -1,4 +1,5 @@
 -- What the code of a store leaves is what the definition says, by the facts that its callees give.
+use Rattle.std.specs.Prelude.{Some, None}
 use Prim.Native.Nat.{ℕ, ◌+◌, ◌*◌, ◌/◌}
 use native.Mathlib.Omega.{arith}
 use mathlib.Core.Bool.{true, false, cond}
@@ -10,7 +11,6 @@ use Rattle.values.specs.Counts.{hit}
 use Rattle.values.specs.declared.Access.{Access}
 use Rattle.values.specs.declared.VirtualAddress.{VirtualAddress}
 use Rattle.values.specs.declared.Answer.TheVariants as answer
-use Rattle.values.specs.declared.Search.TheVariants.{At, Nothing}
 use Rattle.values.proofs.Cases.{case}
 use Rattle.words.specs.Words.{stored}
 use Rattle.bus.specs.Physical.{physical, outside, aborts}
@@ -98,10 +98,10 @@ module _ (m : Machine) (a : Access) (v : ℕ) (p : Place) where
     unfolding store_miss
     miss_faults h = rw (f, h)
 
-  pub store_found_lem : (va : VirtualAddress) (i : ℕ) → va ≡ cleared a → find m.side.cache.lines va ≡ At i → store m a v p ≡ store_hit m a v i
+  pub store_found_lem : (va : VirtualAddress) (i : ℕ) → va ≡ cleared a → find m.side.cache.lines va ≡ Some i → store m a v p ≡ store_hit m a v i
   unfolding store
   store_found_lem va i f e = rw (← f, e)
 
-  pub store_none : (va : VirtualAddress) → va ≡ cleared a → find m.side.cache.lines va ≡ Nothing → store m a v p ≡ store_miss m a v p
+  pub store_none : (va : VirtualAddress) → va ≡ cleared a → find m.side.cache.lines va ≡ None → store m a v p ≡ store_miss m a v p
   unfolding store
   store_none va f e = rw (← f, e)

@@ -1,9 +1,7 @@
 -- "An access, step by step": a store whose alignment, translation and rights pass.
-use Rattle.std.specs.Prelude.{ℕ, cond}
+use Rattle.std.specs.Prelude.{ℕ, cond, Option, Some, None}
 use Rattle.values.specs.Counts.{hit}
 use Rattle.values.specs.declared.Access.{Access}
-use Rattle.values.specs.declared.Search.{Search}
-use Rattle.values.specs.declared.Search.TheVariants.{At, Nothing}
 use Rattle.words.specs.Words.{stored}
 use Rattle.bus.specs.Physical.{outside, aborts}
 use Rattle.buffer.specs.Buffer.{with_memory, drained, buffered}
@@ -34,9 +32,9 @@ store_miss m a v p =
     cond (buffers m.cp15.registers p) (store_buffered m a v p)
     (cond (aborts (physical_of m) p.address) (faulted m (other_status p) p.domain a.address) (store_direct m a v p))
 
-abbrev pub store_found : Machine → Access → ℕ → Place → Search → Stepped
-store_found m a v p (At i) = store_hit m a v i
-store_found m a v p Nothing = store_miss m a v p
+abbrev pub store_found : Machine → Access → ℕ → Place → Option ℕ → Stepped
+store_found m a v p (Some i) = store_hit m a v i
+store_found m a v p None = store_miss m a v p
 
 -- "Kinds: ... store". The Dcache "is searched always, even when disabled."
 unfoldable pub store : Machine → Access → ℕ → Place → Stepped

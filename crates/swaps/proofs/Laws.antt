@@ -1,4 +1,5 @@
 -- What the code of a swap leaves is what the definition says, by the facts that its callees give.
+use Rattle.std.specs.Prelude.{Some, None}
 use Prim.Native.Nat.{ℕ}
 use mathlib.Core.Bool.{true, false}
 use mathlib.Core.Path.{◌≡◌, refl, ◌∙◌, ap}
@@ -7,7 +8,6 @@ use Rattle.values.specs.Kinds.{is_swap}
 use Rattle.values.specs.declared.Access.{Access}
 use Rattle.values.specs.declared.VirtualAddress.{VirtualAddress}
 use Rattle.values.specs.declared.Answer.{Answer}
-use Rattle.values.specs.declared.Search.TheVariants.{At, Nothing}
 use Rattle.words.specs.Words.{value_at, stored}
 use Rattle.words.specs.Signed.{load_answer}
 use Rattle.bus.specs.Physical.{aborts}
@@ -58,23 +58,23 @@ module _ (m : Machine) (a : Access) (v : ℕ) where
     miss_faults h = rw h
 
     module _ (va : VirtualAddress) (f : va ≡ cleared a) where
-      pub swap_found_lem : (i : ℕ) → find m.side.cache.lines va ≡ At i → swap m a v p ≡ swap_hit m a v i
+      pub swap_found_lem : (i : ℕ) → find m.side.cache.lines va ≡ Some i → swap m a v p ≡ swap_hit m a v i
       unfolding swap
       swap_found_lem i e = rw (← f, e)
 
-      pub swap_none : find m.side.cache.lines va ≡ Nothing → swap m a v p ≡ swap_miss m a v p
+      pub swap_none : find m.side.cache.lines va ≡ None → swap m a v p ≡ swap_miss m a v p
       unfolding swap
       swap_none e = rw (← f, e)
 
       -- a store or a swap, by its kind and by what the Dcache's search finds
-      pub found_swap : (i : ℕ) → is_swap a.kind ≡ true → find m.side.cache.lines va ≡ At i → store_or_swap m a v p ≡ swap_hit m a v i
+      pub found_swap : (i : ℕ) → is_swap a.kind ≡ true → find m.side.cache.lines va ≡ Some i → store_or_swap m a v p ≡ swap_hit m a v i
       found_swap i k e = rw k (swap_found_lem i e)
 
-      pub found_store : (i : ℕ) → is_swap a.kind ≡ false → find m.side.cache.lines va ≡ At i → store_or_swap m a v p ≡ store_hit m a v i
+      pub found_store : (i : ℕ) → is_swap a.kind ≡ false → find m.side.cache.lines va ≡ Some i → store_or_swap m a v p ≡ store_hit m a v i
       found_store i k e = rw k (stores.store_found_lem m a v p va i f e)
 
-      pub none_swap : is_swap a.kind ≡ true → find m.side.cache.lines va ≡ Nothing → store_or_swap m a v p ≡ swap_miss m a v p
+      pub none_swap : is_swap a.kind ≡ true → find m.side.cache.lines va ≡ None → store_or_swap m a v p ≡ swap_miss m a v p
       none_swap k e = rw k (swap_none e)
 
-      pub none_store : is_swap a.kind ≡ false → find m.side.cache.lines va ≡ Nothing → store_or_swap m a v p ≡ store_miss m a v p
+      pub none_store : is_swap a.kind ≡ false → find m.side.cache.lines va ≡ None → store_or_swap m a v p ≡ store_miss m a v p
       none_store k e = rw k (stores.store_none m a v p va f e)

@@ -1,8 +1,6 @@
 -- Document 02, Two, "Locked swap": a swap whose alignment, translation and rights pass, by the steps of loads and stores.
-use Rattle.std.specs.Prelude.{ℕ, cond}
+use Rattle.std.specs.Prelude.{ℕ, cond, Option, Some, None}
 use Rattle.values.specs.declared.Access.{Access}
-use Rattle.values.specs.declared.Search.{Search}
-use Rattle.values.specs.declared.Search.TheVariants.{At, Nothing}
 use Rattle.words.specs.Words.{value_at}
 use Rattle.words.specs.Signed.{load_answer}
 use Rattle.bus.specs.Physical.{aborts}
@@ -31,9 +29,9 @@ unfoldable pub swap_miss : Machine → Access → ℕ → Place → Stepped
 swap_miss m a v p =
     cond (aborts (physical_of m) p.address) (faulted m (other_status p) p.domain a.address) (swap_direct m a v p)
 
-abbrev pub swap_found : Machine → Access → ℕ → Place → Search → Stepped
-swap_found m a v p (At i) = swap_hit m a v i
-swap_found m a v p Nothing = swap_miss m a v p
+abbrev pub swap_found : Machine → Access → ℕ → Place → Option ℕ → Stepped
+swap_found m a v p (Some i) = swap_hit m a v i
+swap_found m a v p None = swap_miss m a v p
 
 -- The Dcache "is searched always, even when disabled."
 unfoldable pub swap : Machine → Access → ℕ → Place → Stepped

@@ -11,7 +11,8 @@ fn key_of(w: u64, p: usize) -> u32
     requires { p < 32 }
     ensures { (w % 2 ≡ 1 → result ≡ w / 0x100000000) × (w ≡ 0 → result ≡ 0x800000 + p) }
 {
-    (w / 0x100000000) as u32 | std::num::wrapping_sub_u32((w % 2) as u32, 1) & (0x800000 + p as u32)
+    // bits, and no if: with one the test of all sets takes a third longer
+    (w / 0x100000000) as u32 | ((w % 2) as u32).wrapping_sub(1) & (0x800000 + p as u32)
 }
 
 // The keys of the set whose lines begin at base, twice in a row.
@@ -22,28 +23,20 @@ fn keys_of(lines: &[u64], base: usize) -> [u32; 64]
         × (slice_index lines.now (base + j % 32) ≡ 0 → slice_index result j ≡ 0x800000 + j % 32) }
 {
     let mut keys = [0u32; 64];
-    let mut p: usize = 0;
-    while p < 32 {
+    for p in 0..32 {
         let k = key_of(lines[base + p], p);
         keys[p] = k;
         keys[p + 32] = k;
-        p += 1;
     }
     keys
 }
 
-// Whether key i is among the 16 keys behind it. There is no branch, so that the compiler compares four keys at a time.
+// Whether key i is among the 16 keys behind it.
 fn key_again(keys: &[u32], i: usize) -> bool
     requires { (length keys.now ≡ 64) × (i < 32) }
     ensures { result ≡ any (nat_eq (slice_index keys.now i)) (take 16 (drop (i + 1) keys.now)) }
 {
-    let mut again = false;
-    let mut d: usize = 1;
-    while d < 17 {
-        again = again | (keys[i] == keys[i + d]);
-        d += 1;
-    }
-    again
+    keys[i + 1..i + 17].contains(&keys[i])
 }
 
 // Whether one of the eight keys from i on is among the 16 keys behind it.
@@ -55,10 +48,9 @@ fn keys_again(keys: &[u32], i: usize) -> bool
         ≡ false) → result ≡ false) }
 {
     let mut again = false;
-    let mut j: usize = 0;
-    while j < 8 {
-        again = again | key_again(keys, i + j);
-        j += 1;
+    // all eight are tested, and none ends the loop: with a branch for each key the test of all sets takes an eighth longer
+    for j in 0..8 {
+        again |= key_again(keys, i + j);
     }
     again
 }
@@ -70,18 +62,15 @@ pub fn tags_sound(lines: &[u64]) -> bool
     ensures { (n : ℕ) → all (spec.line_sound n) (lines_of lines.now) ≡ true → result ≡ spec.tags_sound 16 (lines_of lines.now) }
 {
     let mut sound = true;
-    let mut s: usize = 0;
-    'sets: while s < 16 {
+    // document 01 names this form: nested loops left by a label
+    'sets: for s in 0..16 {
         let keys = keys_of(lines, s * 32);
-        let mut p: usize = 0;
-        while p < 32 {
+        for p in (0..32).step_by(8) {
             if keys_again(&keys, p) {
                 sound = false;
                 break 'sets;
             }
-            p += 8;
         }
-        s += 1;
     }
     sound
 }

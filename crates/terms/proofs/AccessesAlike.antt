@@ -1,4 +1,5 @@
 -- An access: alignment, translation and rights, then the load, the store or the swap. R4, R5 and R6 are used in translation alone.
+use Rattle.std.specs.Prelude.{Result, Ok, Err}
 use Prim.Native.Nat.{ℕ, ◌<◌}
 use mathlib.Core.Bool.{true, false, not}
 use mathlib.Core.Path.{◌≡◌, refl, sym, ◌∙◌, subst}
@@ -17,10 +18,8 @@ use Rattle.translation.specs.Alignment.{alignment_faults, cleared}
 use Rattle.translation.specs.Translation.{translation, counts_after, decided}
 use Rattle.translation.specs.Ranges.{CheckedRanged}
 use Rattle.translation.specs.declared.Translation.{Translation}
-use Rattle.translation.specs.declared.Translation.TheVariants.{Flat, Held, Walked, Failed}
+use Rattle.translation.specs.declared.Translation.TheVariants.{Flat, Held, Walked}
 use Rattle.translation.specs.declared.Place.{Place}
-use Rattle.translation.specs.declared.Checked.{Checked}
-use Rattle.translation.specs.declared.Checked.TheVariants.{Passed, Denied}
 use Rattle.translation.specs.declared.Decision.{Decision}
 use Rattle.machine.specs.Machine.{Machine, physical_of}
 use Rattle.reach.specs.Reach.{decision, committed, faulted}
@@ -40,13 +39,15 @@ use Rattle.terms.proofs.Passing.{Passes}
 use Rattle.terms.proofs.LoadsAlike.{load_alike}
 use Rattle.terms.proofs.StoresAlike.{store_alike}
 use Rattle.terms.proofs.SwapsAlike.{swap_alike}
+use Rattle.values.specs.declared.Cause.{Cause}
+use Rattle.values.specs.Causes.{cause_from}
 
 -- a miss is no call
-calls_after : (c : Counts) (t : Translation) → (counts_after c t).calls ≡ c.calls
-calls_after c Flat = refl
-calls_after c (Held e) = refl
-calls_after c (Walked e) = refl
-calls_after c (Failed s d) = refl
+calls_after : (c : Counts) (t : Result Translation Cause) → (counts_after c t).calls ≡ c.calls
+calls_after c (Ok Flat) = refl
+calls_after c (Ok (Held e)) = refl
+calls_after c (Ok (Walked e)) = refl
+calls_after c (Err why) = refl
 
 module _ (n : ℕ) (m : Machine) (p : Plain) (h : History) (k : Shared n m p h) (es : EntriesAre m.entries) (a : Access)
     (low : a.address.0 < 0x100000000) (width : is_width a.width ≡ true) (allowed : AccessAllowed p h a) where
@@ -60,7 +61,7 @@ module _ (n : ℕ) (m : Machine) (p : Plain) (h : History) (k : Shared n m p h) 
     shared : Shared n (committed m d.mapping) p h
 
   -- which mapping serves, on the registers of both
-  abbrev mapping : Translation
+  abbrev mapping : Result Translation Cause
   mapping = translation m.entries p.registers (physical_of m) va
 
   walked : alignment_faults p.registers a ≡ false → mmu p.registers ≡ true → walks p a ≡ true
@@ -115,18 +116,18 @@ module _ (n : ℕ) (m : Machine) (p : Plain) (h : History) (k : Shared n m p h) 
   m₁ = committed m (decision m a).mapping
 
   -- the history after the access, by what is decided of it
-  abbrev after : Checked → History
+  abbrev after : Result Place Cause → History
   after c = after_kind a.kind (after_reach h va c) (plain_physical p) va c
 
-  module _ (l : Place) (e : (decision m a).checked ≡ Passed l) where
-    reached : plain_reach p a ≡ Passed l
+  module _ (l : Place) (e : (decision m a).checked ≡ Ok l) where
+    reached : plain_reach p a ≡ Ok l
     reached = sym decision_alike.same ∙ e
 
-    passes : Passes n m₁ p (after_reach h va (Passed l)) a l
+    passes : Passes n m₁ p (after_reach h va (Ok l)) a l
     unfolding after_reach
     passes =
         let s = decision_alike.shared in
-        let r : CheckedRanged va (Passed l) = subst (λ (c : Checked). CheckedRanged va c) e decision_ranged in
+        let r : CheckedRanged va (Ok l) = subst (λ (c : Result Place Cause). CheckedRanged va c) e decision_ranged in
         record {
           shared = record {
             registers = s.registers;
@@ -136,38 +137,38 @@ module _ (n : ℕ) (m : Machine) (p : Plain) (h : History) (k : Shared n m p h) 
             aligned = s.aligned;
             side_is = s.side_is;
             same_map = s.same_map;
-            side = reach_side h va l m₁.side p.memory s.side (subst (λ (c : Checked). R2 h va c) reached allowed.r2);
-            tlb = tlb_history p.registers.base p.memory p.bad h m₁.entries s.tlb (after_reach h va (Passed l)) refl (λ w t. t);
+            side = reach_side h va l m₁.side p.memory s.side (subst (λ (c : Result Place Cause). R2 h va c) reached allowed.r2);
+            tlb = tlb_history p.registers.base p.memory p.bad h m₁.entries s.tlb (after_reach h va (Ok l)) refl (λ w t. t);
           };
           here = reach_here h va l;
           width = width;
           within = r.within;
         }
 
-    passed_alike : (x : Kind) → Alike n (passed m₁ a l x) (plain_passed p a l x) (after_kind x (after_reach h va (Passed l)) (plain_physical p) va (Passed l))
-    passed_alike Load = load_alike n m₁ p (after_reach h va (Passed l)) a l passes
-    passed_alike SignedLoad = load_alike n m₁ p (after_reach h va (Passed l)) a l passes
-    passed_alike (Store v) = store_alike n m₁ p (after_reach h va (Passed l)) a v l passes
-    passed_alike (Swap v) = swap_alike n m₁ p (after_reach h va (Passed l)) a v l passes
+    passed_alike : (x : Kind) → Alike n (passed m₁ a l x) (plain_passed p a l x) (after_kind x (after_reach h va (Ok l)) (plain_physical p) va (Ok l))
+    passed_alike Load = load_alike n m₁ p (after_reach h va (Ok l)) a l passes
+    passed_alike SignedLoad = load_alike n m₁ p (after_reach h va (Ok l)) a l passes
+    passed_alike (Store v) = store_alike n m₁ p (after_reach h va (Ok l)) a v l passes
+    passed_alike (Swap v) = swap_alike n m₁ p (after_reach h va (Ok l)) a v l passes
 
   -- an access that is denied leaves the history as it was
-  denied_after : (x : Kind) (s : Status) (d : ℕ) → after_kind x (after_reach h va (Denied s d)) (plain_physical p) va (Denied s d) ≡ h
+  denied_after : (x : Kind) (s : Status) (d : ℕ) → after_kind x (after_reach h va (Err (cause_from s d))) (plain_physical p) va (Err (cause_from s d)) ≡ h
   unfolding after_reach after_store
   denied_after Load s d = refl
   denied_after SignedLoad s d = refl
   denied_after (Store v) s d = refl
   denied_after (Swap v) s d = refl
 
-  by_check : (c : Checked) → (decision m a).checked ≡ c → Alike n (access m a) (plain_access p a) (after c)
-  by_check (Denied s d) e =
-      subst (λ (g : History). Alike n (access m a) (plain_access p a) g) (sym (denied_after a.kind s d))
-      (alike_by n (access m a) (faulted m₁ s d a.address) (plain_access p a) (plain_faulted p s d a.address) h
-      (access_denied m m₁ a (decision m a) refl refl s d e)
-      (access_by p a (Denied s d) (sym decision_alike.same ∙ e) ∙ at_denied p a s d)
-      (faulted_alike n m₁ p h decision_alike.shared s d a.address))
-  by_check (Passed l) e =
-      alike_by n (access m a) (passed m₁ a l a.kind) (plain_access p a) (plain_passed p a l a.kind) (after (Passed l))
-      (access_passed m m₁ a (decision m a) refl refl l e) (access_by p a (Passed l) (reached l e) ∙ at_passed p a l) (passed_alike l e a.kind)
+  by_check : (c : Result Place Cause) → (decision m a).checked ≡ c → Alike n (access m a) (plain_access p a) (after c)
+  by_check (Err why) e =
+      subst (λ (g : History). Alike n (access m a) (plain_access p a) g) (sym (denied_after a.kind why.status why.domain))
+      (alike_by n (access m a) (faulted m₁ why.status why.domain a.address) (plain_access p a) (plain_faulted p why.status why.domain a.address) h
+      (access_denied m m₁ a (decision m a) refl refl why.status why.domain e)
+      (access_by p a (Err why) (sym decision_alike.same ∙ e) ∙ at_denied p a why.status why.domain)
+      (faulted_alike n m₁ p h decision_alike.shared why.status why.domain a.address))
+  by_check (Ok l) e =
+      alike_by n (access m a) (passed m₁ a l a.kind) (plain_access p a) (plain_passed p a l a.kind) (after (Ok l))
+      (access_passed m m₁ a (decision m a) refl refl l e) (access_by p a (Ok l) (reached l e) ∙ at_passed p a l) (passed_alike l e a.kind)
 
   pub access_step : Alike n (access m a) (plain_access p a)
       (after_kind a.kind (after_reach h (cleared a) (plain_reach p a)) (plain_physical p) (cleared a) (plain_reach p a))

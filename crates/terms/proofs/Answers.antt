@@ -1,4 +1,5 @@
 -- What a call and a start leave, by their refusal: a refused one changes nothing, any other call answers a value or a fault.
+use Rattle.std.specs.Prelude.{Option, Some, None, Result, Ok, Err}
 use Prim.Native.Nat.{ℕ}
 use native.Mathlib.Omega.{arith}
 use mathlib.Core.Bool.{true, false}
@@ -18,8 +19,6 @@ use Rattle.values.specs.declared.Access.{Access}
 use Rattle.values.specs.declared.Call.{Call}
 use Rattle.values.specs.declared.Call.TheVariants.{Read, Write}
 use Rattle.values.specs.declared.Call.TheVariants as calls
-use Rattle.values.specs.declared.Search.{Search}
-use Rattle.values.specs.declared.Search.TheVariants.{At, Nothing}
 use Rattle.values.specs.declared.Status.{Status}
 use Rattle.values.proofs.Cases.{case, clash}
 use Rattle.words.specs.Words.{value_at}
@@ -34,8 +33,6 @@ use Rattle.translation.specs.Translation.{translation}
 use Rattle.translation.specs.Faults.{fills, buffers, fill_status, other_status, fault_set}
 use Rattle.translation.specs.declared.Translation.{Translation}
 use Rattle.translation.specs.declared.Place.{Place}
-use Rattle.translation.specs.declared.Checked.{Checked}
-use Rattle.translation.specs.declared.Checked.TheVariants.{Passed, Denied}
 use Rattle.machine.specs.Machine.{Machine, memory_of, store_of, physical_of, with_counts, Stepped}
 use Rattle.reach.specs.Reach.{decision, committed, faulted}
 use Rattle.loads.specs.Loads.{load_hit, after_fill, load_fill, load_uncached, load_miss, load_found, load}
@@ -50,6 +47,7 @@ use Rattle.step.specs.Call.{done, served}
 use Rattle.terms.specs.Callers.{on_fill, place_by, side_aborted}
 use Rattle.terms.proofs.Judged.{Decides, decision_decides}
 use Rattle.terms.specs.Term1.{ValueOrFault, Term1At, Term1Start}
+use Rattle.values.specs.declared.Cause.{Cause}
 
 -- ---- what an accepted call answers
 
@@ -90,10 +88,10 @@ module _ (P : Stepped → Type 0) where
           (λ f.
           case (aborts (physical_of m) p.address) (λ h. rw (f, h) other_fault) (λ h. rw (f, h) (value _ (of_memory _ refl))))
 
-      load_found_by : (x : Search) → P (load_found m a p x)
+      load_found_by : (x : Option ℕ) → P (load_found m a p x)
       unfolding load_hit hit_load
-      load_found_by (At i) = value _ (of_cache _ refl)
-      load_found_by Nothing = load_miss_by
+      load_found_by (Some i) = value _ (of_cache _ refl)
+      load_found_by None = load_miss_by
 
       module _ (v : ℕ) (k : a.kind ≡ Store v) where
         store_miss_by : P (store_miss m a v p)
@@ -103,10 +101,10 @@ module _ (P : Stepped → Type 0) where
             (λ f.
             case (aborts (physical_of m) p.address) (λ h. rw (f, h) other_fault) (λ h. rw (f, h) (value _ (stores v k refl))))
 
-        store_found_by : (x : Search) → P (store_found m a v p x)
+        store_found_by : (x : Option ℕ) → P (store_found m a v p x)
         unfolding store_hit
-        store_found_by (At i) = value _ (stores v k refl)
-        store_found_by Nothing = store_miss_by
+        store_found_by (Some i) = value _ (stores v k refl)
+        store_found_by None = store_miss_by
 
       module _ (v : ℕ) where
         swap_miss_by : P (swap_miss m a v p)
@@ -114,10 +112,10 @@ module _ (P : Stepped → Type 0) where
         swap_miss_by =
             case (aborts (physical_of m) p.address) (λ h. rw h other_fault) (λ h. rw h (value _ (swaps_memory _ refl)))
 
-        swap_found_by : (x : Search) → P (swap_found m a v p x)
+        swap_found_by : (x : Option ℕ) → P (swap_found m a v p x)
         unfolding swap_hit load_hit hit_load
-        swap_found_by (At i) = value _ (swaps_cached _ refl)
-        swap_found_by Nothing = swap_miss_by
+        swap_found_by (Some i) = value _ (swaps_cached _ refl)
+        swap_found_by None = swap_miss_by
 
       passed_by : (k : Kind) → a.kind ≡ k → P (passed m a p k)
       unfolding load store swap
@@ -126,16 +124,16 @@ module _ (P : Stepped → Type 0) where
       passed_by (Store v) e = store_found_by v e (find m.side.cache.lines (cleared a))
       passed_by (Swap v) e = swap_found_by v (find m.side.cache.lines (cleared a))
 
-    at_by : (t : Translation) (c : Checked) → Decides (cleared a) t c
+    at_by : (t : Result Translation Cause) (c : Result Place Cause) → Decides (cleared a) t c
         → ((p : Place) → p ≡ place_by (cleared a) t → wanted_aborts (physical_of m) p.address ≡ true
         → P (faulted (after_fill m a p) (fill_status p) p.domain a.address)) → P (access_at m a c)
     unfolding access_at
-    at_by t (Denied s d) k fill = fault s d k
-    at_by t (Passed p) k fill = passed_by p (fill p k) a.kind refl
+    at_by t (Err why) k fill = fault why.status why.domain k
+    at_by t (Ok p) k fill = passed_by p (fill p k) a.kind refl
 
   pub done_by : (m : Machine) (c : Call) → ((x : Stepped) → Answers m.side c x → P x)
-      → ((t : Translation) (s : Status) (d : ℕ) (va : VirtualAddress) → on_fill s ≡ false → P (faulted (committed m t) s d va))
-      → ((a : Access) → c ≡ calls.Access a → (t : Translation) (p : Place)
+      → ((t : Result Translation Cause) (s : Status) (d : ℕ) (va : VirtualAddress) → on_fill s ≡ false → P (faulted (committed m t) s d va))
+      → ((a : Access) → c ≡ calls.Access a → (t : Result Translation Cause) (p : Place)
       → p ≡ place_by (cleared a) (translation m.entries m.cp15.registers (physical_of m) (cleared a))
       → wanted_aborts (physical_of m) p.address ≡ true → P (faulted (after_fill (committed m t) a p) (fill_status p) p.domain a.address))
       → P (done m c)
@@ -207,7 +205,7 @@ no_fault (answer.Fault g) u f e = u
 no_fault (answer.Refused n) u f e = u
 
 -- a fill whose wanted word or one before it aborts leaves an empty place
-fill_gone : (m : Machine) (a : Access) (t : Translation) (p : Place)
+fill_gone : (m : Machine) (a : Access) (t : Result Translation Cause) (p : Place)
     → p ≡ place_by (cleared a) (translation m.entries m.cp15.registers (physical_of m) (cleared a))
     → wanted_aborts (physical_of m) p.address ≡ true → (after_fill (committed m t) a p).side ≡ side_aborted m (calls.Access a)
 unfolding after_fill committed
@@ -243,7 +241,7 @@ done_fault m c =
     (subst (λ (y : Call). FaultKeeps m y g (faulted (after_fill (committed m t) a p) (fill_status p) p.domain a.address).machine) (sym i)
     (filled_keeps m a t p j w)))
   where
-    filled_keeps : (m : Machine) (a : Access) (t : Translation) (p : Place)
+    filled_keeps : (m : Machine) (a : Access) (t : Result Translation Cause) (p : Place)
         → p ≡ place_by (cleared a) (translation m.entries m.cp15.registers (physical_of m) (cleared a))
         → wanted_aborts (physical_of m) p.address ≡ true
         → FaultKeeps m (calls.Access a) (record { status = fill_status p; domain = p.domain; address = a.address })

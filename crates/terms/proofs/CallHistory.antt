@@ -1,4 +1,5 @@
 -- The history after one served call, by the tests that the positions are tested by.
+use Rattle.std.specs.Prelude.{Result, Ok, Err}
 use Prim.Native.Nat.{ℕ, ◌/◌}
 use native.Mathlib.Omega.{arith}
 use mathlib.Core.Bool.{Bool, true, false, cond, not, ◌&&◌, ◌||◌}
@@ -19,14 +20,14 @@ use Rattle.values.specs.declared.Call.TheVariants as calls
 use Rattle.values.proofs.Cases.{case}
 use Rattle.bus.specs.Physical.{Physical, aborts}
 use Rattle.translation.specs.Alignment.{cleared}
-use Rattle.translation.specs.declared.Checked.{Checked}
-use Rattle.translation.specs.declared.Checked.TheVariants.{Passed, Denied}
 use Rattle.cp15.specs.Operations as cp15
 use Rattle.plain.specs.Plain.{Plain, plain_physical, plain_reach}
 use Rattle.terms.specs.History.{Stage, never, stored, cleaned, drained, flushed, History, after_clean}
 use Rattle.terms.specs.History.{line_of_word, with_reach, with_store, after_reach, after_store, after_kind, after_write, after_served}
 use Rattle.terms.specs.Positions.{of_access, of_write, passes, address_in}
 use Rattle.terms.proofs.StageAt.{turned, alone}
+use Rattle.values.specs.declared.Cause.{Cause}
+use Rattle.translation.specs.declared.Place.{Place}
 
 -- ---- which operation a write asks for: at most one
 
@@ -90,29 +91,29 @@ clean_if false drained = refl
 clean_if false flushed = refl
 
 -- an access that stores
-abbrev pub storing : Physical → Kind → Checked → Bool
+abbrev pub storing : Physical → Kind → Result Place Cause → Bool
 storing memory k c = passes c && (is_store k && not (aborts memory (address_in c)))
 
 module _ (h : History) (memory : Physical) (va : VirtualAddress) where
-  reach_is : (c : Checked) → after_reach h va c ≡ cond (passes c) (with_reach h va (address_in c)) h
+  reach_is : (c : Result Place Cause) → after_reach h va c ≡ cond (passes c) (with_reach h va (address_in c)) h
   unfolding after_reach
-  reach_is (Denied s d) = refl
-  reach_is (Passed p) = refl
+  reach_is (Err why) = refl
+  reach_is (Ok p) = refl
 
-  kind_is : (k : Kind) (c : Checked) → after_kind k h memory va c ≡ cond (storing memory k c) (with_store h va (address_in c)) h
+  kind_is : (k : Kind) (c : Result Place Cause) → after_kind k h memory va c ≡ cond (storing memory k c) (with_store h va (address_in c)) h
   unfolding after_store
-  kind_is Load (Denied s d) = refl
-  kind_is Load (Passed p) = refl
-  kind_is SignedLoad (Denied s d) = refl
-  kind_is SignedLoad (Passed p) = refl
-  kind_is (Store v) (Denied s d) = refl
-  kind_is (Store v) (Passed p) = case (aborts memory p.address) (λ t. rw t) (λ t. rw t)
-  kind_is (Swap v) (Denied s d) = refl
-  kind_is (Swap v) (Passed p) = case (aborts memory p.address) (λ t. rw t) (λ t. rw t)
+  kind_is Load (Err why) = refl
+  kind_is Load (Ok p) = refl
+  kind_is SignedLoad (Err why) = refl
+  kind_is SignedLoad (Ok p) = refl
+  kind_is (Store v) (Err why) = refl
+  kind_is (Store v) (Ok p) = case (aborts memory p.address) (λ t. rw t) (λ t. rw t)
+  kind_is (Swap v) (Err why) = refl
+  kind_is (Swap v) (Ok p) = case (aborts memory p.address) (λ t. rw t) (λ t. rw t)
 
 -- an access by whether it reaches and stores
 module _ (p : Plain) (h : History) (a : Access) where
-  abbrev got : Checked
+  abbrev got : Result Place Cause
   got = plain_reach p a
 
   abbrev writing : Bool

@@ -1,4 +1,5 @@
 -- What the rules ask of one served call, by tests of the call.
+use Rattle.std.specs.Prelude.{Result, Ok, Err}
 use Prim.Native.Nat.{ℕ, ◌/◌}
 use mathlib.Core.Bool.{Bool, true, false, ◌&&◌, ◌||◌}
 use mathlib.Core.Path.{◌≡◌, refl, sym, ◌∙◌, ap}
@@ -17,14 +18,14 @@ use Rattle.values.proofs.Anys.{any_some}
 use Rattle.values.proofs.Cases.{clash, and_left, and_right, or_left, or_right, or_cases}
 use Rattle.walk.specs.Reads.{words_read}
 use Rattle.translation.specs.Alignment.{cleared}
-use Rattle.translation.specs.declared.Checked.{Checked}
-use Rattle.translation.specs.declared.Checked.TheVariants.{Passed, Denied}
 use Rattle.cp15.specs.Operations as cp15
 use Rattle.plain.specs.Plain.{Plain, plain_physical, plain_reach}
 use Rattle.terms.specs.History.{History}
 use Rattle.terms.specs.Rules.{is_stored, is_flushed, walks, R2, R6, ServedAllowed}
 use Rattle.terms.specs.Positions.{of_access, of_write, passes, address_in}
 use Rattle.terms.proofs.CallHistory.{reach_of, virtual_of, address_of}
+use Rattle.values.specs.declared.Cause.{Cause}
+use Rattle.translation.specs.declared.Place.{Place}
 
 -- an element of a list of which every element meets a test
 all_any : (f : ℕ → Bool) (w : ℕ) (l : List ℕ) → all f l ≡ true → any (λ x. eqb x w) l ≡ true → f w ≡ true
@@ -67,17 +68,17 @@ module _ (p : Plain) (h : History) where
     pub t6 : walks_of c ≡ true → Large c
 
   -- R2, by whether the access passes
-  paired_of : (va : VirtualAddress) (c : Checked) → R2 h va c → passes c ≡ true → (v q : ℕ) → h.reached v q ≡ true
+  paired_of : (va : VirtualAddress) (c : Result Place Cause) → R2 h va c → passes c ≡ true → (v q : ℕ) → h.reached v q ≡ true
       → (v ≡ virtual_line va → q ≡ physical_line (address_in c)) × (q ≡ physical_line (address_in c) → v ≡ virtual_line va)
-  paired_of va (Denied s d) r e v q t = clash {b = false} e refl
-  paired_of va (Passed l) r e v q t = r v q t
+  paired_of va (Err why) r e v q t = clash {b = false} e refl
+  paired_of va (Ok l) r e v q t = r v q t
 
-  of_paired : (va : VirtualAddress) (c : Checked)
+  of_paired : (va : VirtualAddress) (c : Result Place Cause)
       → (passes c ≡ true → (v q : ℕ) → h.reached v q ≡ true
       → (v ≡ virtual_line va → q ≡ physical_line (address_in c)) × (q ≡ physical_line (address_in c) → v ≡ virtual_line va))
       → R2 h va c
-  of_paired va (Denied s d) f = tt
-  of_paired va (Passed l) f = f refl
+  of_paired va (Err why) f = tt
+  of_paired va (Ok l) f = f refl
 
   pub tests_of : (c : Call) → ServedAllowed p h c → Tests c
   tests_of (calls.Access a) s =

@@ -1,4 +1,5 @@
 -- A clean of a line, and a drain.
+use Rattle.std.specs.Prelude.{Option, Some, None}
 use Prim.Native.Nat.{ℕ, ◌+◌, ◌*◌, ◌/◌, ◌%◌, ◌<◌}
 use native.Mathlib.Omega.{arith}
 use mathlib.Core.Bool.{Bool, true, false, ◌||◌}
@@ -11,8 +12,6 @@ use borrow.Author.Tests.{eqb-true, eqb-false, ne_eqb}
 use Rattle.values.specs.Addresses.{virtual_line}
 use Rattle.values.specs.declared.VirtualAddress.{VirtualAddress}
 use Rattle.values.specs.declared.Line.{Line}
-use Rattle.values.specs.declared.Search.{Search}
-use Rattle.values.specs.declared.Search.TheVariants.{At, Nothing}
 use Rattle.values.proofs.Cases.{case, clash, or_left, or_right}
 use Rattle.buffer.specs.Buffer.{Backing, drained}
 use Rattle.buffer.proofs.Lengths.{bad_drained}
@@ -60,12 +59,12 @@ drained_side n s k pm h g =
 -- ---- a clean: the Dcache and the buffer
 
 module _ (n : ℕ) (s : Side) (k : SideIs n s) (pm : List ℕ) (h : History) (g : SideAgrees s pm h) (va : VirtualAddress) where
-  module _ (i : ℕ) (hit : find s.cache.lines va ≡ At i) where
+  module _ (i : ℕ) (hit : find s.cache.lines va ≡ Some i) where
     abbrev s' : Side
-    s' = (cleaned_at s (At i)).side
+    s' = (cleaned_at s (Some i)).side
 
     same : (j : ℕ) → SameLine (at s.cache.lines j) (at s'.cache.lines j)
-    same j = same_cleaned_at s (At i) j
+    same j = same_cleaned_at s (Some i) j
 
     was_valid : (j : ℕ) → (at s'.cache.lines j).valid ≡ true → (at s.cache.lines j).valid ≡ true
     was_valid j u = sym (same j).valid ∙ u
@@ -96,12 +95,12 @@ module _ (n : ℕ) (s : Side) (k : SideIs n s) (pm : List ℕ) (h : History) (g 
         let e = dirty_other j d in
         subst (P j) (sym e) (old j (was_valid j u) (subst (λ (y : Line). (y.low || y.high) ≡ true) e d))
 
-    cleaned_found : SideAgrees (cleaned_at s (At i)).side pm h
+    cleaned_found : SideAgrees (cleaned_at s (Some i)).side pm h
     cleaned_found =
         record {
           cache = record {
             held = λ j x u b.
-                ap (λ (y : List ℕ). get_or y (j * 32 + x) 0) (store_cleaned_at s (At i)) ∙ g.cache.held j x (was_valid j u) b
+                ap (λ (y : List ℕ). get_or y (j * 32 + x) 0) (store_cleaned_at s (Some i)) ∙ g.cache.held j x (was_valid j u) b
                 ∙ ap (λ (f : ℕ). get_or pm (f * 32 + x) 0) (sym (same j).frame);
             line_reached = λ j u.
                 ap (λ (y : ℕ). h.reached (y * 16 + j / 32) (at s'.cache.lines j).frame) (same j).tag
@@ -110,7 +109,7 @@ module _ (n : ℕ) (s : Side) (k : SideIs n s) (pm : List ℕ) (h : History) (g 
             dirty_through = dirty_kept (λ (j : ℕ) (y : Line). h.through y.frame ≡ y.tag * 16 + j / 32) g.cache.dirty_through;
             one = g.cache.one;
           };
-          good = λ j x u e. rw (bad_cleaned_at s (At i)) (g.good j x (was_valid j u) (e ∙ (same j).frame));
+          good = λ j x u e. rw (bad_cleaned_at s (Some i)) (g.good j x (was_valid j u) (e ∙ (same j).frame));
           under = λ x u. ap (λ (b : Backing). below b x) (backing_cleaned s i) ∙ sent_below n s k pm h g i low x (others x u);
           words = subst (λ (b : Backing). Staged b pm (by_word h)) (sym (backing_cleaned s i)) (sent_staged n s k pm h g i low (by_word h) g.words);
           lines = subst (λ (b : Backing). Staged b pm (by_line h)) (sym (backing_cleaned s i)) (sent_staged n s k pm h g i low (by_line h) g.lines);
@@ -130,9 +129,9 @@ module _ (n : ℕ) (s : Side) (k : SideIs n s) (pm : List ℕ) (h : History) (g 
   Clean t = (j : ℕ) → (at t.cache.lines j).valid ≡ true → ((at t.cache.lines j).low || (at t.cache.lines j).high) ≡ true
       → virtual_at t.cache.lines j ≡ virtual_line va → ⊥
 
-  cleaned_at_lem : (x : Search) → find s.cache.lines va ≡ x → SideAgrees (cleaned_at s x).side pm h × Clean (cleaned_at s x).side
-  cleaned_at_lem (At i) e = (cleaned_found i e, found_clean i e)
-  cleaned_at_lem Nothing e =
+  cleaned_at_lem : (x : Option ℕ) → find s.cache.lines va ≡ x → SideAgrees (cleaned_at s x).side pm h × Clean (cleaned_at s x).side
+  cleaned_at_lem (Some i) e = (cleaned_found i e, found_clean i e)
+  cleaned_at_lem None e =
       subst (λ (t : Side). SideAgrees t pm h × Clean t) (sym (clean_none s)) (g, λ j u d q. missed_virtual n s.cache k.cache va j e u q)
 
   -- ---- a clean: the history

@@ -1,4 +1,5 @@
 -- With a map of zeros the plain machine is document 01's.
+use Rattle.std.specs.Prelude.{Result, Ok, Err}
 use Prim.Native.Nat.{ℕ, ◌+◌, ◌*◌, ◌/◌, ◌%◌}
 use native.Mathlib.Omega.{arith}
 use mathlib.Core.Bool.{true, false, cond}
@@ -22,15 +23,12 @@ use Rattle.values.proofs.Alls.{all_true}
 use Rattle.bus.specs.Physical.{no_bad_words, physical, outside, is_bad, aborts, wanted_aborts}
 use Rattle.bus.proofs.Laws.{inside_bad, outside_aborts, own_wanted, line_wanted}
 use Rattle.walk.specs.Walk.{walk}
-use Rattle.walk.specs.declared.Mapping.{Mapping}
 use Rattle.walk.proofs.Depends.{walk_same}
 use Rattle.translation.specs.Alignment.{cleared}
 use Rattle.translation.specs.Translation.{of_walk, walked_only, decided}
 use Rattle.translation.specs.Faults.{fills, buffers}
 use Rattle.translation.specs.declared.Translation.TheVariants.{Flat}
 use Rattle.translation.specs.declared.Place.{Place}
-use Rattle.translation.specs.declared.Checked.{Checked}
-use Rattle.translation.specs.declared.Checked.TheVariants.{Passed, Denied}
 use Rattle.values.specs.Control.{mmu}
 use Rattle.refusals.specs.Refusals.{map_fits}
 use Rattle.trace.specs.Fold.{answers_of, final_of}
@@ -44,6 +42,8 @@ use Rattle.terms.specs.Document01.{load01, passed01, at01, done01, refusal01, pl
 use Rattle.terms.proofs.Passing.{good_line}
 use Rattle.terms.proofs.PlainKept.{Same, call_keeps}
 use Rattle.terms.proofs.Term3.{term3}
+use Rattle.values.specs.declared.Cause.{Cause}
+use Rattle.values.specs.declared.Entry.{Entry}
 
 -- the plain machine with its map left out, and what a call leaves so
 abbrev bare : Plain → Plain
@@ -109,7 +109,7 @@ module _ (p : Plain) (k : Clear p) where
     unfolding plain_reach walked_only
     reach_bare =
         let r = p.registers in
-        ap (λ (x : Mapping). (decided r a (cond (mmu r) (of_walk x) Flat)).checked) (sym (walk_bare (cleared a)))
+        ap (λ (x : Result Entry Cause). (decided r a (cond (mmu r) (of_walk x) (Ok Flat))).checked) (sym (walk_bare (cleared a)))
 
     module _ (l : Place) where
       load_bare : load01 (bare p) a l ≡ bare_step (plain_load p a l)
@@ -140,10 +140,10 @@ module _ (p : Plain) (k : Clear p) where
       passed_bare (Store v) = store_bare v
       passed_bare (Swap v) = swap_bare v
 
-    at_bare : (c : Checked) → at01 (bare p) a c ≡ bare_step (plain_at p a c)
+    at_bare : (c : Result Place Cause) → at01 (bare p) a c ≡ bare_step (plain_at p a c)
     unfolding at01 plain_at plain_faulted
-    at_bare (Denied s d) = refl
-    at_bare (Passed l) = passed_bare l a.kind
+    at_bare (Err why) = refl
+    at_bare (Ok l) = passed_bare l a.kind
 
   done_bare : (c : Call) → done01 (bare p) c ≡ bare_step (plain_done p c)
   unfolding plain_access plain_read plain_write

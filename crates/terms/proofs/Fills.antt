@@ -1,4 +1,5 @@
 -- A load that misses: the line that is filled, or the bytes that are read from memory, are the plain machine's.
+use Rattle.std.specs.Prelude.{None}
 use Prim.Native.Nat.{ℕ, ◌+◌, ◌*◌, ◌/◌, ◌%◌, ◌<◌, ◌≤◌}
 use native.Mathlib.Omega.{arith}
 use mathlib.Core.Bool.{true, false, ◌||◌}
@@ -12,7 +13,6 @@ use Rattle.values.specs.Addresses.{virtual_line, physical_line, set_of, tag_of}
 use Rattle.values.specs.declared.VirtualAddress.{VirtualAddress}
 use Rattle.values.specs.declared.PhysicalAddress.{PhysicalAddress}
 use Rattle.values.specs.declared.Line.{Line}
-use Rattle.values.specs.declared.Search.TheVariants.{Nothing}
 use Rattle.values.proofs.Cases.{case, clash}
 use Rattle.buffer.specs.Buffer.{Backing, physical_behind, drained, ready}
 use Rattle.buffer.proofs.Below.{below}
@@ -45,7 +45,7 @@ ready_side n s k pm h a w g =
     }
 
 module _ (n : ℕ) (s : Side) (k : SideIs n s) (pm : List ℕ) (h : History) (g : SideAgrees s pm h) (va : VirtualAddress) (pa : PhysicalAddress)
-    (here : h.reached (virtual_line va) (physical_line pa) ≡ true) (miss : find s.cache.lines va ≡ Nothing) where
+    (here : h.reached (virtual_line va) (physical_line pa) ≡ true) (miss : find s.cache.lines va ≡ None) where
   not_held : (i : ℕ) → (at s.cache.lines i).valid ≡ true → (at s.cache.lines i).frame ≡ pa.0 / 32 → ⊥
   not_held i u e = missed_frame n s.cache k.cache h.reached g.cache.one g.cache.line_reached va (pa.0 / 32) here i miss u e
 

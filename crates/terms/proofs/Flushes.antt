@@ -1,4 +1,5 @@
 -- Flushes of the Dcache, which R3 allows, and of the TLB. The one place where R3 is used.
+use Rattle.std.specs.Prelude.{Option, Some, None}
 use Prim.Native.Nat.{ℕ, ◌+◌, ◌*◌, ◌/◌, ◌%◌}
 use mathlib.Core.Bool.{true, false, ◌||◌}
 use mathlib.Core.Path.{◌≡◌, refl, sym, ◌∙◌, ap, subst}
@@ -10,8 +11,6 @@ use Rattle.values.specs.Addresses.{virtual_line}
 use Rattle.values.specs.Empty.{empty_line}
 use Rattle.values.specs.declared.VirtualAddress.{VirtualAddress}
 use Rattle.values.specs.declared.Line.{Line}
-use Rattle.values.specs.declared.Search.{Search}
-use Rattle.values.specs.declared.Search.TheVariants.{At, Nothing}
 use Rattle.values.proofs.Cases.{case, clash, or_left, or_right}
 use Rattle.bus.specs.Physical.{is_bad}
 use Rattle.cache.specs.Dcache.{Dcache, Side, side_from, find, flushed_at, line_flushed, all_flushed}
@@ -65,9 +64,9 @@ module _ (n : ℕ) (s : Side) (k : SideIs n s) (pm : List ℕ) (h : History) (g 
   -- ---- the line of an address
 
   module _ (va : VirtualAddress) (r : (l : ℕ) → h.through l ≡ virtual_line va → is_stored (h.line_stage l) ≡ false) where
-    module _ (i : ℕ) (hit : find s.cache.lines va ≡ At i) where
+    module _ (i : ℕ) (hit : find s.cache.lines va ≡ Some i) where
       abbrev c' : Dcache
-      c' = flushed_at s.cache (At i)
+      c' = flushed_at s.cache (Some i)
 
       -- the line had no dirty half: it would have been stored to through the address's line, and not cleaned since
       was_clean : ((at s.cache.lines i).low || (at s.cache.lines i).high) ≡ false
@@ -99,12 +98,12 @@ module _ (n : ℕ) (s : Side) (k : SideIs n s) (pm : List ℕ) (h : History) (g 
           let e = other_flushed s.cache i j (eqb-false j i t) in
           subst (λ (y : Line). dirty_at y x ≡ false) e (u j (ap (λ (y : Line). y.valid) e ∙ v) (ap (λ (y : Line). y.frame) e ∙ f)))
 
-      flushed_found : SideAgrees (side_from (flushed_at s.cache (At i)) s.backing) pm h
+      flushed_found : SideAgrees (side_from (flushed_at s.cache (Some i)) s.backing) pm h
       flushed_found =
           record {
             cache = record {
               held = λ j x u b.
-                  ap (λ (y : List ℕ). get_or y (j * 32 + x) 0) (store_flushed_at s.cache (At i))
+                  ap (λ (y : List ℕ). get_or y (j * 32 + x) 0) (store_flushed_at s.cache (Some i))
                   ∙ kept (λ (q : ℕ) (y : Line). get_or s.cache.store (q * 32 + x) 0 ≡ get_or pm (y.frame * 32 + x) 0) (λ q v. g.cache.held q x v b) j u;
               line_reached = kept (λ (j : ℕ) (y : Line). h.reached (y.tag * 16 + j / 32) y.frame ≡ true) g.cache.line_reached;
               dirty_stored =
@@ -120,9 +119,9 @@ module _ (n : ℕ) (s : Side) (k : SideIs n s) (pm : List ℕ) (h : History) (g 
             lines = g.lines;
           }
 
-    flushed_at_lem : (x : Search) → find s.cache.lines va ≡ x → SideAgrees (side_from (flushed_at s.cache x) s.backing) pm h
-    flushed_at_lem (At i) e = flushed_found i e
-    flushed_at_lem Nothing e =
+    flushed_at_lem : (x : Option ℕ) → find s.cache.lines va ≡ x → SideAgrees (side_from (flushed_at s.cache x) s.backing) pm h
+    flushed_at_lem (Some i) e = flushed_found i e
+    flushed_at_lem None e =
         subst (λ (c : Dcache). SideAgrees (side_from c s.backing) pm h) (sym (flush_none s.cache)) g
 
     pub line_flushed_side : SideAgrees (side_from (line_flushed s.cache va) s.backing) pm h

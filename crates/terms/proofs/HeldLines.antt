@@ -1,4 +1,5 @@
 -- Which line holds an address, and that no two lines hold one virtual or one physical line.
+use Rattle.std.specs.Prelude.{Some, None}
 use Prim.Native.Nat.{ℕ, ◌+◌, ◌*◌, ◌/◌, ◌%◌, ◌<◌, ◌≤◌}
 use native.Mathlib.Omega.{arith}
 use mathlib.Core.Bool.{Bool, true}
@@ -11,7 +12,6 @@ use Rattle.values.specs.Addresses.{virtual_line, set_of, tag_of}
 use Rattle.values.specs.Empty.{empty_line}
 use Rattle.values.specs.declared.VirtualAddress.{VirtualAddress}
 use Rattle.values.specs.declared.Line.{Line}
-use Rattle.values.specs.declared.Search.TheVariants.{At, Nothing}
 use Rattle.values.proofs.Cases.{case, clash, and_both}
 use Rattle.cache.specs.Dcache.{Dcache, find}
 use Rattle.cache.proofs.Finds.{found, missed}
@@ -58,7 +58,7 @@ module _ (n : ℕ) (c : Dcache) (k : CacheIs n c) where
     abbrev line_of : Type 0
     line_of = va.0 / 512 * 16 + va.0 / 32 % 16 ≡ va.0 / 32
 
-    pub found_virtual : (i : ℕ) → find lines va ≡ At i → virtual_at lines i ≡ virtual_line va
+    pub found_virtual : (i : ℕ) → find lines va ≡ Some i → virtual_at lines i ≡ virtual_line va
     found_virtual i e =
         let f = found lines va i e in
         let t = f.tag in
@@ -67,10 +67,10 @@ module _ (n : ℕ) (c : Dcache) (k : CacheIs n c) where
         ap (λ (x : ℕ). x * 16 + i / 32) t ∙ ap (λ (x : ℕ). va.0 / 512 * 16 + x) s ∙ q
 
     -- the only line of its virtual line
-    pub found_only : (i j : ℕ) → find lines va ≡ At i → (at lines j).valid ≡ true → virtual_at lines j ≡ virtual_line va → j ≡ i
+    pub found_only : (i j : ℕ) → find lines va ≡ Some i → (at lines j).valid ≡ true → virtual_at lines j ≡ virtual_line va → j ≡ i
     found_only i j e v q = same_virtual j i v (found lines va i e).valid (q ∙ sym (found_virtual i e))
 
-    pub missed_virtual : (j : ℕ) → find lines va ≡ Nothing → (at lines j).valid ≡ true → virtual_at lines j ≡ virtual_line va → ⊥
+    pub missed_virtual : (j : ℕ) → find lines va ≡ None → (at lines j).valid ≡ true → virtual_at lines j ≡ virtual_line va → ⊥
     missed_virtual j e v q =
         let b = valid_low j v in
         let t : (at lines j).tag ≡ tag_of va = omega arith in
@@ -96,12 +96,12 @@ module _ (n : ℕ) (c : Dcache) (k : CacheIs n c) where
 
     -- an address that reaches its physical line
     module _ (va : VirtualAddress) (p : ℕ) (here : reached (virtual_line va) p ≡ true) where
-      pub found_frame : (i : ℕ) → find lines va ≡ At i → (at lines i).frame ≡ p
+      pub found_frame : (i : ℕ) → find lines va ≡ Some i → (at lines i).frame ≡ p
       found_frame i e =
           one.physical (virtual_line va) (at lines i).frame p
           (subst (λ (x : ℕ). reached x (at lines i).frame ≡ true) (found_virtual va i e) (r i (found lines va i e).valid)) here
 
-      pub missed_frame : (j : ℕ) → find lines va ≡ Nothing → (at lines j).valid ≡ true → (at lines j).frame ≡ p → ⊥
+      pub missed_frame : (j : ℕ) → find lines va ≡ None → (at lines j).valid ≡ true → (at lines j).frame ≡ p → ⊥
       missed_frame j e v q =
           missed_virtual va j e v
           (one.virtual (virtual_at lines j) (virtual_line va) p (subst (λ (x : ℕ). reached (virtual_at lines j) x ≡ true) q (r j v)) here)

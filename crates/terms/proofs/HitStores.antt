@@ -1,4 +1,5 @@
 -- A store that hits: the line and its half's mark change, and the plain machine's memory.
+use Rattle.std.specs.Prelude.{Some}
 use Prim.Native.Nat.{ℕ, ◌+◌, ◌-◌, ◌*◌, ◌/◌, ◌%◌, ◌<◌, ◌≤◌}
 use native.Mathlib.Omega.{arith}
 use mathlib.Core.Bool.{true, false, ◌||◌}
@@ -11,7 +12,6 @@ use borrow.Author.Tests.{eqb-true, eqb-false, eq-eqb, ne_eqb, ltb-true, ltb-fals
 use Rattle.values.specs.Addresses.{virtual_line, physical_line, offset_of}
 use Rattle.values.specs.declared.VirtualAddress.{VirtualAddress}
 use Rattle.values.specs.declared.Line.{Line}
-use Rattle.values.specs.declared.Search.TheVariants.{At}
 use Rattle.values.proofs.Cases.{case, clash}
 use Rattle.words.specs.Words.{stored}
 use Rattle.buffer.proofs.Below.{below}
@@ -42,7 +42,7 @@ marked_clean l o x e =
     (λ t. case (ltb (x % 32) 16) (λ u. let f : l.low ≡ false = rw (t, u) at e in rw u f) (λ u. clash (marked_dirty l o x (u ∙ sym t)) e))
 
 module _ (n : ℕ) (s : Side) (k : SideIs n s) (pm : List ℕ) (long : length pm ≡ n) (h : History) (g : SideAgrees s pm h) (va : VirtualAddress)
-    (l : Place) (w v i : ℕ) (here : h.reached (virtual_line va) (physical_line l.address) ≡ true) (hit : find s.cache.lines va ≡ At i)
+    (l : Place) (w v i : ℕ) (here : h.reached (virtual_line va) (physical_line l.address) ≡ true) (hit : find s.cache.lines va ≡ Some i)
     (fits : l.address.0 % 4 + w ≤ 4) (offset : l.address.0 % 32 ≡ va.0 % 32) where
   abbrev c : Dcache
   c = s.cache

@@ -1,4 +1,5 @@
 -- What holds of the library's machine, the plain machine and the history at every moment of a run that keeps the rules.
+use Rattle.std.specs.Prelude.{Ok}
 use Prim.Native.Nat.{ℕ, ◌+◌, ◌*◌, ◌/◌, ◌%◌, ◌<◌}
 use mathlib.Core.Bool.{Bool, true, false, cond, ◌||◌}
 use mathlib.Core.Path.{◌≡◌}
@@ -13,7 +14,6 @@ use Rattle.values.specs.declared.Line.{Line}
 use Rattle.bus.specs.Physical.{physical, is_bad}
 use Rattle.walk.specs.Walk.{walk}
 use Rattle.walk.specs.Reads.{words_read}
-use Rattle.walk.specs.declared.Mapping.TheVariants.{Found}
 use Rattle.tlb.specs.Tlb.{covers}
 use Rattle.buffer.specs.Buffer.{Backing, slot_at}
 use Rattle.buffer.proofs.Below.{lands, below}
@@ -98,7 +98,7 @@ Readable pm bad base h va = all (λ (w : ℕ). is_flushed (h.word_stage w)) (wor
 -- an entry that covers an address is what the plain walk finds for it
 pub record TlbAgrees (entries : List Entry) (base : ℕ) (pm bad : List ℕ) (h : History) : Type 0 where
   pub mapped : h.base_stale ≡ false → (i : ℕ) (va : VirtualAddress) → covers va (get_or entries i empty_entry) ≡ true → Readable pm bad base h va
-      → walk (physical pm bad) base va ≡ Found (get_or entries i empty_entry)
+      → walk (physical pm bad) base va ≡ Ok (get_or entries i empty_entry)
 
 -- ---- the machines
 

@@ -1,4 +1,5 @@
 -- A load that passes: hit, fill, uncached load, or fault.
+use Rattle.std.specs.Prelude.{Option, Some, None}
 use Prim.Native.Nat.{ℕ, ◌+◌, ◌*◌, ◌/◌, ◌%◌, ◌<◌}
 use native.Mathlib.Omega.{arith}
 use mathlib.Core.Bool.{Bool, true, false, cond}
@@ -10,8 +11,6 @@ use Rattle.values.specs.declared.Access.{Access}
 use Rattle.values.specs.declared.Counts.{Counts}
 use Rattle.values.specs.declared.Fault.{Fault}
 use Rattle.values.specs.declared.Registers.{Registers}
-use Rattle.values.specs.declared.Search.{Search}
-use Rattle.values.specs.declared.Search.TheVariants.{At, Nothing}
 use Rattle.values.proofs.Cases.{case}
 use Rattle.words.specs.Words.{value_at}
 use Rattle.words.specs.Signed.{load_answer}
@@ -81,7 +80,7 @@ module _ (n : ℕ) (m : Machine) (p : Plain) (h : History) (a : Access) (l : Pla
       case (fills p.registers l) (λ f. load_aborts_fill p l f ∙ x) (λ f. load_aborts_other p l f ∙ y)
 
   -- a hit gives the word that the plain machine reads
-  hit_value : (i : ℕ) → find m.side.cache.lines (cleared a) ≡ At i
+  hit_value : (i : ℕ) → find m.side.cache.lines (cleared a) ≡ Some i
       → hit_load m.side.cache i (cleared a) a.width ≡ value_at a.width p.memory pa
   hit_value i e =
       let c = m.side.cache in
@@ -89,17 +88,17 @@ module _ (n : ℕ) (m : Machine) (p : Plain) (h : History) (a : Access) (l : Pla
       let f = hit_frame n m p h a l k i e in
       line_value c i (λ x b. k.shared.side.cache.held i x v b ∙ ap (λ (y : ℕ). get_or p.memory (y * 32 + x) 0) f)
 
-  pub hit_answer : (i : ℕ) → find m.side.cache.lines (cleared a) ≡ At i → (load_hit m a i).answer ≡ plain_loaded p a l
+  pub hit_answer : (i : ℕ) → find m.side.cache.lines (cleared a) ≡ Some i → (load_hit m a i).answer ≡ plain_loaded p a l
   unfolding load_hit
   hit_answer i e = ap (load_answer a.kind a.width) (hit_value i e)
 
-  pub hit_alike : (i : ℕ) → find m.side.cache.lines (cleared a) ≡ At i → Alike n (load_hit m a i) (plain_load p a l) h
+  pub hit_alike : (i : ℕ) → find m.side.cache.lines (cleared a) ≡ Some i → Alike n (load_hit m a i) (plain_load p a l) h
   unfolding load_hit
   hit_alike i e =
       loaded_alike m.side (hit m.counts) (hit_load m.side.cache i (cleared a) a.width)
       (load_aborts false (hit_wanted n m p h a l k i e) (hit_answers n m p h a l k i e)) refl k.shared.side refl (hit_value i e)
 
-  module _ (miss : find m.side.cache.lines (cleared a) ≡ Nothing) where
+  module _ (miss : find m.side.cache.lines (cleared a) ≡ None) where
     -- what a fill leaves
     abbrev s : Side
     s = (filled m.side (cleared a) l.address).side
@@ -185,8 +184,8 @@ module _ (n : ℕ) (m : Machine) (p : Plain) (h : History) (a : Access) (l : Pla
   pub load_alike : Alike n (load m a l) (plain_load p a l) h
   load_alike = by (find m.side.cache.lines (cleared a)) refl
     where
-      by : (x : Search) → find m.side.cache.lines (cleared a) ≡ x → Alike n (load m a l) (plain_load p a l) h
-      by (At i) e =
+      by : (x : Option ℕ) → find m.side.cache.lines (cleared a) ≡ x → Alike n (load m a l) (plain_load p a l) h
+      by (Some i) e =
           alike_by n (load m a l) (load_hit m a i) (plain_load p a l) (plain_load p a l) h (found_hit m a l (cleared a) i refl e) refl (hit_alike i e)
-      by Nothing e =
+      by None e =
           alike_by n (load m a l) (load_miss m a l) (plain_load p a l) (plain_load p a l) h (found_none m a l (cleared a) refl e) refl (miss_alike e)

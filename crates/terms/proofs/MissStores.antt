@@ -1,4 +1,5 @@
 -- A store that misses, into the write buffer or into memory.
+use Rattle.std.specs.Prelude.{None}
 use Prim.Native.Nat.{ℕ, ◌+◌, ◌*◌, ◌/◌, ◌%◌, ◌<◌, ◌≤◌}
 use native.Mathlib.Omega.{arith}
 use mathlib.Core.Bool.{true, false}
@@ -9,7 +10,6 @@ use borrow.Author.Tests.{ne_eqb}
 use Rattle.values.specs.Addresses.{virtual_line, physical_line}
 use Rattle.values.specs.declared.VirtualAddress.{VirtualAddress}
 use Rattle.values.specs.declared.PhysicalAddress.{PhysicalAddress}
-use Rattle.values.specs.declared.Search.TheVariants.{Nothing}
 use Rattle.words.specs.Words.{stored}
 use Rattle.buffer.specs.Buffer.{Backing, with_memory, drained, buffered}
 use Rattle.buffer.proofs.Below.{below}
@@ -26,7 +26,7 @@ use Rattle.terms.proofs.HeldLines.{missed_frame}
 use Rattle.terms.proofs.StoredBytes.{words_stored, lines_stored}
 
 module _ (n : ℕ) (s : Side) (k : SideIs n s) (pm : List ℕ) (long : length pm ≡ n) (h : History) (g : SideAgrees s pm h) (va : VirtualAddress)
-    (l : Place) (w v : ℕ) (here : h.reached (virtual_line va) (physical_line l.address) ≡ true) (miss : find s.cache.lines va ≡ Nothing)
+    (l : Place) (w v : ℕ) (here : h.reached (virtual_line va) (physical_line l.address) ≡ true) (miss : find s.cache.lines va ≡ None)
     (fits : l.address.0 % 4 + w ≤ 4) where
   abbrev a : ℕ
   a = l.address.0

@@ -1,4 +1,5 @@
 -- What loads, stores and swaps that pass share: the words that abort, the line that is hit, and faults.
+use Rattle.std.specs.Prelude.{Some}
 use Prim.Native.Nat.{ℕ, zero, suc, ◌+◌, ◌*◌, ◌/◌, ◌%◌, ◌<◌, ◌≤◌}
 use native.Mathlib.Omega.{arith}
 use native.Mathlib.Numerals.{add-one}
@@ -9,7 +10,6 @@ use Rattle.values.specs.Addresses.{virtual_line, physical_line, word_in_line, wo
 use Rattle.values.specs.declared.PhysicalAddress.{PhysicalAddress}
 use Rattle.values.specs.declared.Access.{Access}
 use Rattle.values.specs.declared.Status.{Status}
-use Rattle.values.specs.declared.Search.TheVariants.{At}
 use Rattle.words.specs.Words.{is_width}
 use Rattle.bus.specs.Physical.{Physical, is_bad, aborts, aborts_within, wanted_aborts, line_aborts}
 use Rattle.bus.proofs.Laws.{answers, aborts_same, within_same, line_wanted, wanted_own, good_answers, within_zero, within_next}
@@ -61,7 +61,7 @@ module _ (n : ℕ) (m : Machine) (p : Plain) (h : History) (a : Access) (l : Pla
   answers_inside e = let i = answers (plain_physical p) l.address e in omega (arith, k.shared.long)
 
   -- the line that is hit is the place's, and its words answer
-  module _ (i : ℕ) (e : find m.side.cache.lines (cleared a) ≡ At i) where
+  module _ (i : ℕ) (e : find m.side.cache.lines (cleared a) ≡ Some i) where
     pub hit_frame : (at m.side.cache.lines i).frame ≡ l.address.0 / 32
     hit_frame =
         let g = k.shared.side.cache in

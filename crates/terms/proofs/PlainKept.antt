@@ -1,4 +1,5 @@
 -- What no call of the plain machine changes: memory's length, and the map.
+use Rattle.std.specs.Prelude.{Result, Ok, Err}
 use Prim.Native.Nat.{ℕ}
 use mathlib.Core.Path.{◌≡◌, refl, ◌∙◌}
 use mathlib.Core.List.{List, [], ◌∷◌}
@@ -15,11 +16,10 @@ use Rattle.words.proofs.Laws.{length_stored}
 use Rattle.bus.specs.Physical.{aborts}
 use Rattle.translation.specs.Faults.{buffers}
 use Rattle.translation.specs.declared.Place.{Place}
-use Rattle.translation.specs.declared.Checked.{Checked}
-use Rattle.translation.specs.declared.Checked.TheVariants.{Passed, Denied}
 use Rattle.trace.specs.Fold.{final_of}
 use Rattle.plain.specs.Plain.{Plain, plain_physical, plain_faulted, plain_reach, plain_load_aborts, plain_load, plain_store, plain_swap, plain_passed, plain_at}
 use Rattle.plain.specs.Plain.{plain_access, plain_read, plain_write, plain_done, plain_refusal, counted, plainly, plain_final}
+use Rattle.values.specs.declared.Cause.{Cause}
 
 pub record Same (p q : Plain) : Type 0 where
   pub long : length q.memory ≡ length p.memory
@@ -51,10 +51,10 @@ module _ (p : Plain) (a : Access) (l : Place) where
   passed_keeps (Store v) = store_keeps v
   passed_keeps (Swap v) = swap_keeps v
 
-at_keeps : (p : Plain) (a : Access) (c : Checked) → Same p (plain_at p a c).plain
+at_keeps : (p : Plain) (a : Access) (c : Result Place Cause) → Same p (plain_at p a c).plain
 unfolding plain_at plain_faulted
-at_keeps p a (Denied s d) = as_was refl refl
-at_keeps p a (Passed l) = passed_keeps p a l a.kind
+at_keeps p a (Err why) = as_was refl refl
+at_keeps p a (Ok l) = passed_keeps p a l a.kind
 
 done_keeps : (p : Plain) (c : Call) → Same p (plain_done p c).plain
 unfolding plain_access plain_read plain_write

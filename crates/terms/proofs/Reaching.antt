@@ -1,4 +1,5 @@
 -- An access that passes reaches a line: R2 keeps the lines reached one to one. The one place where R2 is used.
+use Rattle.std.specs.Prelude.{Ok}
 use Prim.Native.Nat.{ℕ}
 use mathlib.Core.Bool.{Bool, true, ◌&&◌, ◌||◌}
 use mathlib.Core.Path.{◌≡◌, refl, sym, ◌∙◌}
@@ -10,7 +11,6 @@ use Rattle.values.specs.declared.VirtualAddress.{VirtualAddress}
 use Rattle.values.proofs.Cases.{and_left, and_right, and_both, or_left, or_right, or_cases}
 use Rattle.cache.specs.Dcache.{Side}
 use Rattle.translation.specs.declared.Place.{Place}
-use Rattle.translation.specs.declared.Checked.TheVariants.{Passed}
 use Rattle.terms.specs.History.{History, after_reach}
 use Rattle.terms.specs.Rules.{R2}
 use Rattle.terms.proofs.Invariant.{at, virtual_at, OneToOne, SideAgrees}
@@ -31,7 +31,7 @@ module _ (h : History) (va : VirtualAddress) (l : Place) where
       or_cases (eqb v v₀ && eqb p p₀) (h.reached v p) t
       (λ a. f (eqb-true v v₀ (and_left (eqb v v₀) (eqb p p₀) a)) (eqb-true p p₀ (and_right (eqb v v₀) (eqb p p₀) a))) g
 
-  also_one : OneToOne h.reached → R2 h va (Passed l) → OneToOne also
+  also_one : OneToOne h.reached → R2 h va (Ok l) → OneToOne also
   also_one o r =
       record {
         physical = λ v p q a b.
@@ -48,11 +48,11 @@ module _ (h : History) (va : VirtualAddress) (l : Place) where
   later v p t = or_right (eqb v v₀ && eqb p p₀) (h.reached v p) t
 
   -- the access's own pair
-  pub reach_here : (after_reach h va (Passed l)).reached (virtual_line va) (physical_line l.address) ≡ true
+  pub reach_here : (after_reach h va (Ok l)).reached (virtual_line va) (physical_line l.address) ≡ true
   unfolding after_reach
   reach_here = or_left (eqb v₀ v₀ && eqb p₀ p₀) (h.reached v₀ p₀) (and_both (eqb v₀ v₀) (eqb p₀ p₀) (eq-eqb v₀ v₀ refl) (eq-eqb p₀ p₀ refl))
 
-  pub reach_side : (s : Side) (pm : List ℕ) → SideAgrees s pm h → R2 h va (Passed l) → SideAgrees s pm (after_reach h va (Passed l))
+  pub reach_side : (s : Side) (pm : List ℕ) → SideAgrees s pm h → R2 h va (Ok l) → SideAgrees s pm (after_reach h va (Ok l))
   unfolding after_reach
   reach_side s pm g r =
       record {

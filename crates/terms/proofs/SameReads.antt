@@ -1,4 +1,5 @@
 -- A walk whose words all meet a test, in two memories that have the same words wherever the test holds.
+use Rattle.std.specs.Prelude.{Option, Some, None}
 use Prim.Native.Nat.{ℕ, ◌*◌, ◌%◌}
 use mathlib.Core.Bool.{Bool, true}
 use mathlib.Core.Path.{◌≡◌, refl, ◌∙◌, ap}
@@ -12,8 +13,6 @@ use Rattle.values.proofs.Cases.{case, clash, and_left, and_right, and_both, or_c
 use Rattle.words.specs.Words.{value_at}
 use Rattle.bus.specs.Physical.{Physical, aborts}
 use Rattle.bus.specs.Reader.{descriptor_at}
-use Rattle.bus.specs.declared.Descriptor.{Descriptor}
-use Rattle.bus.specs.declared.Descriptor.TheVariants.{Word, Outside}
 use Rattle.walk.specs.Walk.{first_address, second_address, walk}
 use Rattle.walk.specs.Reads.{read_at, second_reads, words_read}
 use Rattle.walk.proofs.Depends.{Agree, descriptor_same, walk_same}
@@ -56,10 +55,10 @@ module _ (m l : Physical) (same_aborts : (pa : PhysicalAddress) → aborts m pa 
   agree : (ws : List ℕ) → all f ws ≡ true → Agree m l ws
   agree ws e w h = same w (all_has f ws e w h)
 
-  second_reads_where : (va : VirtualAddress) (d : Descriptor) → all f (second_reads m va d) ≡ true → second_reads m va d ≡ second_reads l va d
+  second_reads_where : (va : VirtualAddress) (d : Option ℕ) → all f (second_reads m va d) ≡ true → second_reads m va d ≡ second_reads l va d
   unfolding second_reads
-  second_reads_where va Outside e = refl
-  second_reads_where va (Word w) e =
+  second_reads_where va None e = refl
+  second_reads_where va (Some w) e =
       case (eqb (w % 4) 1)
       (λ t.
       let pa = second_address w va in
@@ -79,4 +78,4 @@ module _ (m l : Physical) (same_aborts : (pa : PhysicalAddress) → aborts m pa 
         let front = all_front f (read_at pa d) (second_reads m va d) e in
         let q : d ≡ descriptor_at l pa = descriptor_same m l same_aborts pa (agree (read_at pa d) front) in
         let r = second_reads_where va d (all_back f (read_at pa d) (second_reads m va d) e) in
-        ap (λ (ws : List ℕ). read_at pa d ++ ws) r ∙ ap (λ (x : Descriptor). read_at pa x ++ second_reads l va x) q
+        ap (λ (ws : List ℕ). read_at pa d ++ ws) r ∙ ap (λ (x : Option ℕ). read_at pa x ++ second_reads l va x) q

@@ -1,4 +1,5 @@
 -- Settled bytes stay settled when entries leave and enter; and what lies below the cache then, by the places of the backing.
+use Rattle.std.specs.Prelude.{Option, Some, None}
 use Prim.Native.Nat.{ℕ, zero, suc, ◌+◌, ◌-◌, ◌*◌, ◌/◌, ◌%◌, ◌<◌, ◌≤◌}
 use native.Mathlib.Omega.{arith}
 use mathlib.Core.Bool.{true, false, cond, not}
@@ -14,8 +15,6 @@ use Rattle.values.specs.Empty.{empty_slot}
 use Rattle.values.specs.Bits.{bit}
 use Rattle.values.specs.declared.PhysicalAddress.{PhysicalAddress}
 use Rattle.values.specs.declared.Slot.{Slot}
-use Rattle.values.specs.declared.Search.{Search}
-use Rattle.values.specs.declared.Search.TheVariants.{At, Nothing}
 use Rattle.values.proofs.Anys.{any_means}
 use Rattle.values.proofs.Cases.{case, clash, and_left, and_right, and_both, and_no, or_cases, or_none}
 use Rattle.words.specs.Words.{stored}
@@ -253,10 +252,10 @@ pub settled_buffered : (n : ℕ) (b : Backing) (k : BackingIs n b) (pm : List �
 unfolding buffered
 settled_buffered n b k pm pa w v x fits o s = by (newest_of b.buffer.slots (block_of pa) b.buffer.used) refl
   where
-    by : (y : Search) → newest_of b.buffer.slots (block_of pa) b.buffer.used ≡ y → SettledAt (stored_at b (block_of pa) w (pa.0 % 16) v y) pm x
-    by Nothing e =
+    by : (y : Option ℕ) → newest_of b.buffer.slots (block_of pa) b.buffer.used ≡ y → SettledAt (stored_at b (block_of pa) w (pa.0 % 16) v y) pm x
+    by None e =
         settled_pushed n b k pm x s (new_slot (block_of pa) w (pa.0 % 16) v) (λ t. clash t o)
-    by (At i) e =
+    by (Some i) e =
         let l = b.buffer.slots in
         let old = slot_at b.buffer i in
         let new = joined old w (pa.0 % 16) v in

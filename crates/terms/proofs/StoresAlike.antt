@@ -1,4 +1,5 @@
 -- A store that passes: hit, buffered store, dropped store, direct store, or fault.
+use Rattle.std.specs.Prelude.{Option, Some, None, Ok}
 use Prim.Native.Nat.{ℕ, ◌+◌, ◌*◌, ◌/◌, ◌%◌, ◌≤◌}
 use native.Mathlib.Omega.{arith}
 use mathlib.Core.Bool.{true, false}
@@ -11,8 +12,6 @@ use Rattle.values.specs.declared.Access.{Access}
 use Rattle.values.specs.declared.Counts.{Counts}
 use Rattle.values.specs.declared.Registers.{Registers}
 use Rattle.values.specs.declared.Answer.TheVariants as answer
-use Rattle.values.specs.declared.Search.{Search}
-use Rattle.values.specs.declared.Search.TheVariants.{At, Nothing}
 use Rattle.values.proofs.Cases.{case}
 use Rattle.words.specs.Words.{stored}
 use Rattle.words.proofs.Laws.{length_stored}
@@ -38,7 +37,6 @@ use Rattle.terms.proofs.MissStores.{buffered_side, direct_side, dropped_side}
 use Rattle.terms.proofs.TlbAgreement.{tlb_stored}
 use Rattle.terms.proofs.Alike.{Alike, alike_by, still_alike}
 use Rattle.terms.proofs.Passing.{Passes, plain_aborts, answers_inside, hit_answers, both_fault}
-use Rattle.translation.specs.declared.Checked.TheVariants.{Passed}
 
 module _ (n : ℕ) (m : Machine) (p : Plain) (h : History) (a : Access) (v : ℕ) (l : Place) (k : Passes n m p h a l) where
   abbrev pa : ℕ
@@ -48,7 +46,7 @@ module _ (n : ℕ) (m : Machine) (p : Plain) (h : History) (a : Access) (v : ℕ
   entered = buffered m.side.backing l.address a.width v
 
   abbrev after : History
-  after = after_store h (plain_physical p) (cleared a) (Passed l)
+  after = after_store h (plain_physical p) (cleared a) (Ok l)
 
   fits : pa % 4 + a.width ≤ 4
   fits = in_word a pa k.width k.within
@@ -80,7 +78,7 @@ module _ (n : ℕ) (m : Machine) (p : Plain) (h : History) (a : Access) (v : ℕ
           tlb = tlb_stored p.registers.base p.memory p.bad h m.entries k.shared.tlb a.width v (cleared a) l fits;
         }))
 
-    module _ (miss : find m.side.cache.lines (cleared a) ≡ Nothing) where
+    module _ (miss : find m.side.cache.lines (cleared a) ≡ None) where
       -- the word stored to is not bad
       good_word : is_bad (bad_of m) (pa / 4) ≡ false
       good_word = ap (λ (x : List ℕ). is_bad x (pa / 4)) k.shared.same_map ∙ answers_good (plain_physical p) l.address b
@@ -102,7 +100,7 @@ module _ (n : ℕ) (m : Machine) (p : Plain) (h : History) (a : Access) (v : ℕ
           (direct_side n m.side k.shared.side_is p.memory k.shared.long h k.shared.side (cleared a) l a.width v k.here miss fits
           (width_some a.width k.width) (answers_inside n m p h a l k b) k.shared.whole good_word) refl
 
-  pub hit_alike : (i : ℕ) → find m.side.cache.lines (cleared a) ≡ At i → Alike n (store_hit m a v i) (plain_store p a v l) after
+  pub hit_alike : (i : ℕ) → find m.side.cache.lines (cleared a) ≡ Some i → Alike n (store_hit m a v i) (plain_store p a v l) after
   unfolding store_hit
   hit_alike i e =
       let w = k.within in
@@ -113,7 +111,7 @@ module _ (n : ℕ) (m : Machine) (p : Plain) (h : History) (a : Access) (v : ℕ
   -- ---- the word aborts: the store is dropped, or faults
 
   module _ (b : aborts (plain_physical p) l.address ≡ true) where
-    pub after_out : after_store h (plain_physical p) (cleared a) (Passed l) ≡ h
+    pub after_out : after_store h (plain_physical p) (cleared a) (Ok l) ≡ h
     unfolding after_store
     after_out = rw b
 
@@ -152,7 +150,7 @@ module _ (n : ℕ) (m : Machine) (p : Plain) (h : History) (a : Access) (v : ℕ
   abbrev plain : PlainStepped
   plain = plain_store p a v l
 
-  miss_alike : find m.side.cache.lines (cleared a) ≡ Nothing → Alike n (store_miss m a v l) (plain_store p a v l) after
+  miss_alike : find m.side.cache.lines (cleared a) ≡ None → Alike n (store_miss m a v l) (plain_store p a v l) after
   miss_alike miss =
       case (aborts (physical_of m) l.address)
       (λ t.
@@ -171,9 +169,9 @@ module _ (n : ℕ) (m : Machine) (p : Plain) (h : History) (a : Access) (v : ℕ
       (λ f. alike_by n (store_miss m a v l) (store_buffered m a v l) plain plain after (miss_buffered m a v l f) refl (buffered_alike b miss inside))
       (λ f. alike_by n (store_miss m a v l) (store_direct m a v l) plain plain after (miss_direct m a v l f t) refl (direct_alike b miss)))
 
-  pub store_alike : Alike n (store m a v l) (plain_store p a v l) (after_store h (plain_physical p) (cleared a) (Passed l))
+  pub store_alike : Alike n (store m a v l) (plain_store p a v l) (after_store h (plain_physical p) (cleared a) (Ok l))
   store_alike = by (find m.side.cache.lines (cleared a)) refl
     where
-      by : (x : Search) → find m.side.cache.lines (cleared a) ≡ x → Alike n (store m a v l) plain after
-      by (At i) e = alike_by n (store m a v l) (store_hit m a v i) plain plain after (store_found_lem m a v l (cleared a) i refl e) refl (hit_alike i e)
-      by Nothing e = alike_by n (store m a v l) (store_miss m a v l) plain plain after (store_none m a v l (cleared a) refl e) refl (miss_alike e)
+      by : (x : Option ℕ) → find m.side.cache.lines (cleared a) ≡ x → Alike n (store m a v l) plain after
+      by (Some i) e = alike_by n (store m a v l) (store_hit m a v i) plain plain after (store_found_lem m a v l (cleared a) i refl e) refl (hit_alike i e)
+      by None e = alike_by n (store m a v l) (store_miss m a v l) plain plain after (store_none m a v l (cleared a) refl e) refl (miss_alike e)

@@ -1,12 +1,11 @@
 -- A swap that passes: a hit, memory behind a drain, or a fault. It leaves what a store that hits, or one that goes to memory, leaves.
+use Rattle.std.specs.Prelude.{Option, Some, None, Ok}
 use Prim.Native.Nat.{ℕ, ◌+◌}
 use native.Mathlib.Omega.{arith}
 use mathlib.Core.Bool.{false}
 use mathlib.Core.Path.{◌≡◌, refl, sym, ◌∙◌, ap, subst}
 use Rattle.values.specs.declared.Access.{Access}
 use Rattle.values.specs.declared.Answer.{Answer}
-use Rattle.values.specs.declared.Search.{Search}
-use Rattle.values.specs.declared.Search.TheVariants.{At, Nothing}
 use Rattle.values.proofs.Cases.{case}
 use Rattle.words.specs.Words.{value_at}
 use Rattle.words.specs.Signed.{load_answer}
@@ -16,7 +15,6 @@ use Rattle.cache.specs.Dcache.{find}
 use Rattle.translation.specs.Alignment.{cleared}
 use Rattle.translation.specs.Faults.{other_status}
 use Rattle.translation.specs.declared.Place.{Place}
-use Rattle.translation.specs.declared.Checked.TheVariants.{Passed}
 use Rattle.machine.specs.Machine.{Machine, memory_of, physical_of, drained_all, Stepped, stepped_from}
 use Rattle.reach.proofs.Bounds.{in_line}
 use Rattle.loads.specs.Loads.{load_hit}
@@ -34,7 +32,7 @@ use Rattle.terms.proofs.StoresAlike as stores
 
 module _ (n : ℕ) (m : Machine) (p : Plain) (h : History) (a : Access) (v : ℕ) (l : Place) (k : Passes n m p h a l) where
   abbrev after : History
-  after = after_store h (plain_physical p) (cleared a) (Passed l)
+  after = after_store h (plain_physical p) (cleared a) (Ok l)
 
   -- what a store leaves, with the word that the plain machine reads, where it answers
   both_alike : (y s : Stepped) (x : Answer) → s ≡ stepped_from y.machine x → aborts (plain_physical p) l.address ≡ false
@@ -52,13 +50,13 @@ module _ (n : ℕ) (m : Machine) (p : Plain) (h : History) (a : Access) (v : ℕ
         tlb = j.tlb;
       })
 
-  hit_alike : (i : ℕ) → find m.side.cache.lines (cleared a) ≡ At i → Alike n (swap_hit m a v i) (plain_swap p a v l) after
+  hit_alike : (i : ℕ) → find m.side.cache.lines (cleared a) ≡ Some i → Alike n (swap_hit m a v i) (plain_swap p a v l) after
   unfolding swap_hit
   hit_alike i e =
       both_alike (store_hit m a v i) (swap_hit m a v i) (load_hit m a i).answer refl (hit_answers n m p h a l k i e)
       (loads.hit_answer n m p h a l k i e) (stores.hit_alike n m p h a v l k i e)
 
-  module _ (miss : find m.side.cache.lines (cleared a) ≡ Nothing) where
+  module _ (miss : find m.side.cache.lines (cleared a) ≡ None) where
     -- the value read once the buffer is drained is the plain machine's
     read_alike : value_at a.width (memory_of (drained_all m)) l.address.0 ≡ value_at a.width p.memory l.address.0
     read_alike =
@@ -88,12 +86,12 @@ module _ (n : ℕ) (m : Machine) (p : Plain) (h : History) (a : Access) (v : ℕ
         let b = plain_aborts n m p h a l k ∙ t in
         alike_by n (swap_miss m a v l) (swap_direct m a v l) (plain_swap p a v l) (plain_swap p a v l) after (miss_direct m a v l t) refl (direct_alike b))
 
-  pub swap_alike : Alike n (swap m a v l) (plain_swap p a v l) (after_store h (plain_physical p) (cleared a) (Passed l))
+  pub swap_alike : Alike n (swap m a v l) (plain_swap p a v l) (after_store h (plain_physical p) (cleared a) (Ok l))
   swap_alike = by (find m.side.cache.lines (cleared a)) refl
     where
-      by : (x : Search) → find m.side.cache.lines (cleared a) ≡ x → Alike n (swap m a v l) (plain_swap p a v l) after
-      by (At i) e =
+      by : (x : Option ℕ) → find m.side.cache.lines (cleared a) ≡ x → Alike n (swap m a v l) (plain_swap p a v l) after
+      by (Some i) e =
           alike_by n (swap m a v l) (swap_hit m a v i) (plain_swap p a v l) (plain_swap p a v l) after (swap_found_lem m a v l (cleared a) refl i e) refl
           (hit_alike i e)
-      by Nothing e =
+      by None e =
           alike_by n (swap m a v l) (swap_miss m a v l) (plain_swap p a v l) (plain_swap p a v l) after (swap_none m a v l (cleared a) refl e) refl (miss_alike e)

@@ -1,5 +1,6 @@
 -- Term 2, proved. Behind alignment the table's rows are three groups: of the walk, of rights, and of a place whose word aborts. Each group gives
 -- what its part of an access decides.
+use Rattle.std.specs.Prelude.{Option, Some, None, Result, Ok, Err}
 use Prim.Native.Nat.{ℕ, zero, suc, ◌%◌, ◌≤◌}
 use native.Mathlib.Omega.{arith}
 use mathlib.Core.Bool.{Bool, true, false, cond, not, ◌&&◌, ◌||◌}
@@ -22,8 +23,6 @@ use Rattle.values.specs.declared.Access.{Access}
 use Rattle.values.specs.declared.Status.{Status}
 use Rattle.values.specs.declared.Status.TheVariants.{WalkFirst, WalkSecond, TranslationSection, TranslationPage, DomainSection, DomainPage}
 use Rattle.values.specs.declared.Status.TheVariants.{PermissionSection, PermissionPage, FillSection, FillPage, OtherSection, OtherPage}
-use Rattle.values.specs.declared.Search.{Search}
-use Rattle.values.specs.declared.Search.TheVariants.{At, Nothing}
 use Rattle.values.specs.declared.Call.{Call}
 use Rattle.values.specs.declared.Call.TheVariants.{Read, Write}
 use Rattle.values.specs.declared.Call.TheVariants as calls
@@ -32,11 +31,7 @@ use Rattle.words.specs.Signed.{load_answer}
 use Rattle.rights.specs.Rights.{rights, permits, domain_value}
 use Rattle.bus.specs.Physical.{Physical, aborts, wanted_aborts}
 use Rattle.bus.specs.Reader.{descriptor_at}
-use Rattle.bus.specs.declared.Descriptor.{Descriptor}
-use Rattle.bus.specs.declared.Descriptor.TheVariants.{Word, Outside}
 use Rattle.walk.specs.Walk.{walk, first, second, first_address, second_address, domain_of}
-use Rattle.walk.specs.declared.Mapping.{Mapping}
-use Rattle.walk.specs.declared.Mapping.TheVariants as found
 use Rattle.tlb.specs.Tlb.{lookup, ap_of}
 use Rattle.cache.specs.Dcache.{find}
 use Rattle.translation.specs.Alignment.{alignment_faults, cleared}
@@ -45,8 +40,6 @@ use Rattle.translation.specs.Faults.{fills, buffers}
 use Rattle.translation.specs.declared.Translation.{Translation}
 use Rattle.translation.specs.declared.Translation.TheVariants.{Flat, Held}
 use Rattle.translation.specs.declared.Place.{Place}
-use Rattle.translation.specs.declared.Checked.{Checked}
-use Rattle.translation.specs.declared.Checked.TheVariants.{Passed, Denied}
 use Rattle.machine.specs.Machine.{Machine, physical_of, with_counts}
 use Rattle.reach.specs.Reach.{decision, committed, faulted}
 use Rattle.loads.specs.Loads.{load_hit, load_fill, load_uncached, load_miss, load_found, load}
@@ -59,6 +52,7 @@ use Rattle.step.specs.Call.{done, served}
 use Rattle.terms.proofs.Callers.{fault_leaves}
 use Rattle.terms.specs.Callers.{place_by}
 use Rattle.terms.specs.Term2.{is_outside, word_in, has_bits, is_nothing, entry_of, rows, Faulting, faults, passes, fault_in, table_fault, Term2}
+use Rattle.values.specs.declared.Cause.{Cause}
 
 -- ---- cases
 
@@ -98,16 +92,16 @@ module _ (given : VirtualAddress) where
   row condition s d = record { met = condition; gives = fault_at s d }
 
   -- the fault of a walk that failed, else what follows
-  abbrev by_mapping : Mapping → Faulting → Faulting
-  by_mapping (found.Failed s d) x = fault_at s d
-  by_mapping (found.Found e) x = x
+  abbrev by_mapping : Result Entry Cause → Faulting → Faulting
+  by_mapping (Err why) x = fault_at why.status why.domain
+  by_mapping (Ok e) x = x
 
   -- the fault of an access that is denied, else what its place gives
-  abbrev by_checked : Checked → (Place → Faulting) → Faulting
-  by_checked (Denied s d) k = fault_at s d
-  by_checked (Passed p) k = k p
+  abbrev by_checked : Result Place Cause → (Place → Faulting) → Faulting
+  by_checked (Err why) k = fault_at why.status why.domain
+  by_checked (Ok p) k = k p
 
-  abbrev walk_rows : Bool → Descriptor → Descriptor → List (Row Faulting) → List (Row Faulting)
+  abbrev walk_rows : Bool → Option ℕ → Option ℕ → List (Row Faulting) → List (Row Faulting)
   walk_rows walked one two rs =
       row (walked && is_outside one) WalkFirst 0
       ∷ row (walked && (has_bits 1 one && is_outside two)) WalkSecond (domain_of (word_in one))
@@ -123,7 +117,7 @@ module _ (given : VirtualAddress) where
       ∷ row (on && (eqb right 2 && not (eqb e.size 0))) PermissionPage e.domain
       ∷ rs
 
-  abbrev place_rows : Registers → Physical → Search → Bool → Bool → Place → List (Row Faulting)
+  abbrev place_rows : Registers → Physical → Option ℕ → Bool → Bool → Place → List (Row Faulting)
   place_rows r memory x store swap p =
       let on_fill : Bool = is_nothing x && (not store && (fills r p && wanted_aborts memory p.address)) in
       let other : Bool = is_nothing x && (aborts memory p.address && (swap || cond store (not (buffers r p)) (not (fills r p)))) in
@@ -136,20 +130,20 @@ module _ (given : VirtualAddress) where
   -- ---- the walk's rows fault as the walk fails, the rows of rights as the rights deny
 
   module _ (rs : List (Row Faulting)) where
-    walk_second : (va : VirtualAddress) (w : ℕ) → w % 4 ≡ 1 → (two : Descriptor)
-        → fault_of (walk_rows true (Word w) two rs) ≡ by_mapping (second (domain_of w) va two) (fault_of rs)
+    walk_second : (va : VirtualAddress) (w : ℕ) → w % 4 ≡ 1 → (two : Option ℕ)
+        → fault_of (walk_rows true (Some w) two rs) ≡ by_mapping (second (domain_of w) va two) (fault_of rs)
     unfolding first_met second
-    walk_second va w h Outside = rw h
-    walk_second va w h (Word v) = low_bits v (λ k. rw (h, k)) (λ k. rw (h, k)) (λ k. rw (h, k)) (λ k. rw (h, k))
+    walk_second va w h None = rw h
+    walk_second va w h (Some v) = low_bits v (λ k. rw (h, k)) (λ k. rw (h, k)) (λ k. rw (h, k)) (λ k. rw (h, k))
 
-    walk_first : (memory : Physical) (va : VirtualAddress) (one : Descriptor)
+    walk_first : (memory : Physical) (va : VirtualAddress) (one : Option ℕ)
         → fault_of (walk_rows true one (descriptor_at memory (second_address (word_in one) va)) rs) ≡ by_mapping (first memory va one) (fault_of rs)
     unfolding first_met first
-    walk_first memory va Outside = refl
-    walk_first memory va (Word w) =
+    walk_first memory va None = refl
+    walk_first memory va (Some w) =
         low_bits w (λ h. rw h) (λ h. walk_second va w h (descriptor_at memory (second_address w va)) ∙ rw h) (λ h. rw h) (λ h. rw h)
 
-    right_rows_lem : (right : ℕ) (e : Entry) (va : VirtualAddress) (k : Place → Faulting) → right ≤ 2 → fault_of rs ≡ k (place_by va (Held e))
+    right_rows_lem : (right : ℕ) (e : Entry) (va : VirtualAddress) (k : Place → Faulting) → right ≤ 2 → fault_of rs ≡ k (place_by va (Ok (Held e)))
         → fault_of (right_rows true right e rs) ≡ by_checked (judged right e va) k
     unfolding first_met
     right_rows_lem zero e va k h f = f
@@ -173,35 +167,35 @@ module _ (r : Registers) (a : Access) (end : Place → List (Row Faulting)) wher
   ended p = fault_of (end p)
 
   -- the rows behind the walk's, where a mapping serves
-  mapped_rows : (e : Entry) → fault_of (right_rows given true (right_of e) e (end (place_by va (Held e)))) ≡ by_checked given (checked_by r a e) ended
+  mapped_rows : (e : Entry) → fault_of (right_rows given true (right_of e) e (end (place_by va (Ok (Held e))))) ≡ by_checked given (checked_by r a e) ended
   unfolding checked_by
   mapped_rows e =
-      right_rows_lem given (end (place_by va (Held e))) (right_of e) e va ended
+      right_rows_lem given (end (place_by va (Ok (Held e)))) (right_of e) e va ended
       (rights_low (domain_value r.domains e.domain) (ap_of e va) (system r) (rom r) a.privileged (is_store a.kind)) refl
 
-  abbrev rest_rows : Bool → Translation → List (Row Faulting)
+  abbrev rest_rows : Bool → Result Translation Cause → List (Row Faulting)
   rest_rows on t = right_rows given on (right_of (entry_of t)) (entry_of t) (end (place_by va t))
 
   -- the rows behind the walk's, by what the walk gives
-  walked_rows : (y : Mapping) → by_mapping given y (fault_of (rest_rows true (of_walk y))) ≡ by_checked given (checked r a (of_walk y)) ended
-  walked_rows (found.Failed s d) = refl
-  walked_rows (found.Found e) = mapped_rows e
+  walked_rows : (y : Result Entry Cause) → by_mapping given y (fault_of (rest_rows true (of_walk y))) ≡ by_checked given (checked r a (of_walk y)) ended
+  walked_rows (Err why) = refl
+  walked_rows (Ok e) = mapped_rows e
 
   module _ (es : List Entry) (memory : Physical) where
-    abbrev one : Descriptor
+    abbrev one : Option ℕ
     one = descriptor_at memory (first_address r.base va)
 
-    abbrev two : Descriptor
+    abbrev two : Option ℕ
     two = descriptor_at memory (second_address (word_in one) va)
 
     -- the rows of translation and rights, by M and by what the TLB's search finds
-    translated_rows : (on : Bool) (x : Search)
-        → fault_of (walk_rows given (on && is_nothing x) one two (rest_rows on (cond on (of_lookup es r memory va x) Flat)))
-        ≡ by_checked given (checked r a (cond on (of_lookup es r memory va x) Flat)) ended
+    translated_rows : (on : Bool) (x : Option ℕ)
+        → fault_of (walk_rows given (on && is_nothing x) one two (rest_rows on (cond on (of_lookup es r memory va x) (Ok Flat))))
+        ≡ by_checked given (checked r a (cond on (of_lookup es r memory va x) (Ok Flat))) ended
     unfolding first_met walk
     translated_rows false x = refl
-    translated_rows true (At i) = mapped_rows (get_or es i empty_entry)
-    translated_rows true Nothing =
+    translated_rows true (Some i) = mapped_rows (get_or es i empty_entry)
+    translated_rows true None =
         walk_first given (rest_rows true (of_walk (first memory va one))) memory va one ∙ walked_rows (first memory va one)
 
 -- ---- behind translation and rights
@@ -215,7 +209,7 @@ load_passes (Swap x) width v = refl
 
 module _ (m : Machine) (a : Access) where
   -- the rows of a place, by what the Dcache's search finds
-  abbrev search_rows : Search → Bool → Bool → Place → List (Row Faulting)
+  abbrev search_rows : Option ℕ → Bool → Bool → Place → List (Row Faulting)
   search_rows x store swap p = place_rows a.address m.cp15.registers (physical_of m) x store swap p
 
   abbrev end_rows : Place → List (Row Faulting)
@@ -232,7 +226,7 @@ module _ (m : Machine) (a : Access) where
       case (alignment_faults r a) (λ t. rw t)
       (λ t. rw t (translated_rows r a end_rows m.entries (physical_of m) (mmu r) (lookup m.entries (cleared a))))
 
-  load_missed : (p : Place) → fault_in (load_miss m a p).answer ≡ fault_of (search_rows Nothing false false p)
+  load_missed : (p : Place) → fault_in (load_miss m a p).answer ≡ fault_of (search_rows None false false p)
   unfolding first_met load_miss load_fill load_uncached faulted
   load_missed p =
       let wanted = wanted_aborts (physical_of m) p.address in
@@ -243,33 +237,33 @@ module _ (m : Machine) (a : Access) where
       (λ h. case own (λ o. rw (f, h, o) (load_passes a.kind a.width _)) (λ o. rw (f, h, o) (load_passes a.kind a.width _))))
       (λ f. case own (λ h. case p.page (λ g. rw (f, h, g)) (λ g. rw (f, h, g))) (λ h. rw (f, h) (load_passes a.kind a.width _)))
 
-  load_found_lem : (p : Place) (x : Search) → fault_in (load_found m a p x).answer ≡ fault_of (search_rows x false false p)
+  load_found_lem : (p : Place) (x : Option ℕ) → fault_in (load_found m a p x).answer ≡ fault_of (search_rows x false false p)
   unfolding first_met load_hit
-  load_found_lem p (At i) = load_passes a.kind a.width _
-  load_found_lem p Nothing = load_missed p
+  load_found_lem p (Some i) = load_passes a.kind a.width _
+  load_found_lem p None = load_missed p
 
-  store_missed : (v : ℕ) (p : Place) → fault_in (store_miss m a v p).answer ≡ fault_of (search_rows Nothing true false p)
+  store_missed : (v : ℕ) (p : Place) → fault_in (store_miss m a v p).answer ≡ fault_of (search_rows None true false p)
   unfolding first_met store_miss store_buffered store_direct faulted
   store_missed v p =
       case (aborts (physical_of m) p.address)
       (λ h. case (buffers m.cp15.registers p) (λ f. rw (f, h)) (λ f. case p.page (λ g. rw (f, h, g)) (λ g. rw (f, h, g))))
       (λ h. case (buffers m.cp15.registers p) (λ f. rw (f, h)) (λ f. rw (f, h)))
 
-  store_found_lem : (v : ℕ) (p : Place) (x : Search) → fault_in (store_found m a v p x).answer ≡ fault_of (search_rows x true false p)
+  store_found_lem : (v : ℕ) (p : Place) (x : Option ℕ) → fault_in (store_found m a v p x).answer ≡ fault_of (search_rows x true false p)
   unfolding first_met store_hit
-  store_found_lem v p (At i) = refl
-  store_found_lem v p Nothing = store_missed v p
+  store_found_lem v p (Some i) = refl
+  store_found_lem v p None = store_missed v p
 
-  swap_missed : (v : ℕ) (p : Place) → fault_in (swap_miss m a v p).answer ≡ fault_of (search_rows Nothing true true p)
+  swap_missed : (v : ℕ) (p : Place) → fault_in (swap_miss m a v p).answer ≡ fault_of (search_rows None true true p)
   unfolding first_met swap_miss swap_direct faulted
   swap_missed v p =
       case (aborts (physical_of m) p.address) (λ h. case p.page (λ g. rw (h, g)) (λ g. rw (h, g)))
       (λ h. rw h (load_passes a.kind a.width _))
 
-  swap_found_lem : (v : ℕ) (p : Place) (x : Search) → fault_in (swap_found m a v p x).answer ≡ fault_of (search_rows x true true p)
+  swap_found_lem : (v : ℕ) (p : Place) (x : Option ℕ) → fault_in (swap_found m a v p x).answer ≡ fault_of (search_rows x true true p)
   unfolding first_met swap_hit load_hit
-  swap_found_lem v p (At i) = load_passes a.kind a.width _
-  swap_found_lem v p Nothing = swap_missed v p
+  swap_found_lem v p (Some i) = load_passes a.kind a.width _
+  swap_found_lem v p None = swap_missed v p
 
   -- an access that passes, by its kind
   passed_fault : (p : Place) (k : Kind)
@@ -280,13 +274,13 @@ module _ (m : Machine) (a : Access) where
   passed_fault p (Store v) = store_found_lem v p (find m.side.cache.lines (cleared a))
   passed_fault p (Swap v) = swap_found_lem v p (find m.side.cache.lines (cleared a))
 
-  at_fault : (c : Checked) → fault_in (access_at m a c).answer ≡ by_checked a.address c end_of
+  at_fault : (c : Result Place Cause) → fault_in (access_at m a c).answer ≡ by_checked a.address c end_of
   unfolding access_at faulted
-  at_fault (Denied s d) = refl
-  at_fault (Passed p) = passed_fault p a.kind
+  at_fault (Err why) = refl
+  at_fault (Ok p) = passed_fault p a.kind
 
 -- translation changes nothing that the last rows ask
-end_kept : (m : Machine) (a : Access) (t : Translation) → end_of (committed m t) a ≡ end_of m a
+end_kept : (m : Machine) (a : Access) (t : Result Translation Cause) → end_of (committed m t) a ≡ end_of m a
 unfolding committed
 end_kept m a t = refl
 

@@ -1,4 +1,5 @@
 -- The TLB and the walk: the library translates as the plain machine does, and each step keeps the TLB's entries what the plain walk finds.
+use Rattle.std.specs.Prelude.{Option, Some, None, Result, Ok, Err}
 use Prim.Native.Nat.{ℕ, ◌+◌, ◌-◌, ◌*◌, ◌/◌, ◌%◌, ◌<◌, ◌≤◌}
 use native.Mathlib.Omega.{arith}
 use mathlib.Core.Bool.{Bool, true, false}
@@ -16,20 +17,15 @@ use Rattle.values.specs.declared.VirtualAddress.{VirtualAddress}
 use Rattle.values.specs.declared.PhysicalAddress.{PhysicalAddress}
 use Rattle.values.specs.declared.Access.{Access}
 use Rattle.values.specs.declared.Entry.{Entry}
-use Rattle.values.specs.declared.Search.{Search}
-use Rattle.values.specs.declared.Search.TheVariants.{At, Nothing}
 use Rattle.values.proofs.Cases.{case, clash}
 use Rattle.values.proofs.Searches.{matched}
 use Rattle.words.specs.Words.{value_at, stored}
 use Rattle.words.proofs.Laws.{length_stored, same_bytes, load_before, load_behind}
 use Rattle.bus.specs.Physical.{Physical, physical, aborts}
 use Rattle.bus.specs.Reader.{descriptor_at}
-use Rattle.bus.specs.declared.Descriptor.TheVariants.{Word, Outside}
 use Rattle.bus.proofs.Laws.{aborts_same, descriptor_in, descriptor_out}
 use Rattle.walk.specs.Walk.{first_address, second_address, domain_of, walk}
 use Rattle.walk.specs.Reads.{words_read}
-use Rattle.walk.specs.declared.Mapping.{Mapping}
-use Rattle.walk.specs.declared.Mapping.TheVariants as walked
 use Rattle.walk.proofs.Finds.{Finds, by_section, by_large, by_small, finds}
 use Rattle.tlb.specs.Tlb.{covers, lookup, placed, flushed, dropped}
 use Rattle.tlb.proofs.Covered.{Equal, covered, covered_large, second_address_group}
@@ -45,30 +41,31 @@ use Rattle.terms.specs.History as history
 use Rattle.terms.specs.Rules.{is_flushed, is_drained, is_large, Group, R6}
 use Rattle.terms.proofs.Invariant.{Staged, by_word, Readable, TlbAgrees}
 use Rattle.terms.proofs.SameReads.{all_weaker, walk_where, reads_where}
+use Rattle.values.specs.declared.Cause.{Cause}
 
 -- ---- a large page
 
 -- the word that a descriptor holds
-descriptor_word : (m : Physical) (pa : PhysicalAddress) (w : ℕ) → descriptor_at m pa ≡ Word w → value_at 4 m.bytes (word_of pa * 4) ≡ w
+descriptor_word : (m : Physical) (pa : PhysicalAddress) (w : ℕ) → descriptor_at m pa ≡ Some w → value_at 4 m.bytes (word_of pa * 4) ≡ w
 descriptor_word m pa w e =
     case (aborts m pa)
-    (λ t. let q : Outside ≡ Word w = sym (descriptor_out m pa t) ∙ e in let z : ◌≡◌ {A = ℕ} 0 1 = cc in absurd (omega arith))
-    (λ t. let q : Word (value_at 4 m.bytes (word_of pa * 4)) ≡ Word w = sym (descriptor_in m pa t) ∙ e in cc)
+    (λ t. let q : None ≡ Some w = sym (descriptor_out m pa t) ∙ e in let z : ◌≡◌ {A = ℕ} 0 1 = cc in absurd (omega arith))
+    (λ t. let q : Some (value_at 4 m.bytes (word_of pa * 4)) ≡ Some w = sym (descriptor_in m pa t) ∙ e in cc)
 
 -- a level 2 word that lies in a group of sixteen equal words
 in_group : (m : Physical) (w : ℕ) (a b : VirtualAddress) (word : ℕ) → Group m ((second_address w a).0 / 64 * 64) word
-    → (second_address w b).0 / 64 ≡ (second_address w a).0 / 64 → descriptor_at m (second_address w b) ≡ Word word
+    → (second_address w b).0 / 64 ≡ (second_address w a).0 / 64 → descriptor_at m (second_address w b) ≡ Some word
 in_group m w a b word g s =
     let y = (second_address w b).0 in
     let k = g (y % 64 / 4) (omega arith) in
     let i : (second_address w a).0 / 64 * 64 + 4 * (y % 64 / 4) ≡ y = omega arith in
     let at-word : word_of (second_address w b) * 4 ≡ y = omega arith in
     descriptor_in m (second_address w b) (subst (λ (u : ℕ). aborts m (record { 0 = u }) ≡ false) i k.0)
-    ∙ ap (λ (u : ℕ). Word (value_at 4 m.bytes u)) at-word ∙ ap Word (subst (λ (u : ℕ). value_at 4 m.bytes u ≡ word) i k.1)
+    ∙ ap (λ (u : ℕ). Some (value_at 4 m.bytes u)) at-word ∙ ap Some (subst (λ (u : ℕ). value_at 4 m.bytes u ≡ word) i k.1)
 
 -- what an entry found by the plain walk of an address says of another address that it covers
 module _ (p : Plain) (aligned : p.registers.base % 4 ≡ 0) (a b : VirtualAddress) (e : Entry)
-    (found : walk (plain_physical p) p.registers.base a ≡ walked.Found e) (c : covers b e ≡ true) where
+    (found : walk (plain_physical p) p.registers.base a ≡ Ok e) (c : covers b e ≡ true) where
   -- the two addresses lie in one large page
   one_page : e.size ≡ 1 → b.0 / 0x10000 ≡ a.0 / 0x10000
   one_page z = go (finds (plain_physical p) p.registers.base a e found)
@@ -105,7 +102,7 @@ flushed_drained history.drained e = refl
 flushed_drained history.flushed e = refl
 
 -- the entry that a lookup finds covers the address
-found_covers : (entries : List Entry) (va : VirtualAddress) (i : ℕ) → lookup entries va ≡ At i → covers va (get_or entries i empty_entry) ≡ true
+found_covers : (entries : List Entry) (va : VirtualAddress) (i : ℕ) → lookup entries va ≡ Some i → covers va (get_or entries i empty_entry) ≡ true
 unfolding lookup
 found_covers entries va i e =
     let m = matched (covers va) 0 entries empty_entry i e in
@@ -143,15 +140,15 @@ module _ (b : Backing) (p : Plain) (h : History) (long : length b.memory ≡ len
     unfolding translation walked_only
     checked_agrees = case (mmu p.registers) (λ m. rw m (go m (lookup entries va) refl)) (λ m. rw m)
       where
-        go : mmu p.registers ≡ true → (x : Search) → lookup entries va ≡ x
+        go : mmu p.registers ≡ true → (x : Option ℕ) → lookup entries va ≡ x
             → checked p.registers a (of_lookup entries p.registers (physical_behind b) va x)
             ≡ checked p.registers a (of_walk (walk (plain_physical p) p.registers.base va))
-        go m (At i) e = sym (ap (λ (x : Mapping). checked p.registers a (of_walk x)) (t.mapped (r5 m) i va (found_covers entries va i e) (r4 m)))
-        go m Nothing e = ap (λ (x : Mapping). checked p.registers a (of_walk x)) (walk_agrees va (r4 m))
+        go m (Some i) e = sym (ap (λ (x : Result Entry Cause). checked p.registers a (of_walk x)) (t.mapped (r5 m) i va (found_covers entries va i e) (r4 m)))
+        go m None e = ap (λ (x : Result Entry Cause). checked p.registers a (of_walk x)) (walk_agrees va (r4 m))
 
     module _ (aligned : p.registers.base % 4 ≡ 0) (pointer : ℕ) where
       -- the entries with what the plain walk finds at the pointer
-      placed_agrees : (e : Entry) → walk (plain_physical p) p.registers.base va ≡ walked.Found e → R6 p va
+      placed_agrees : (e : Entry) → walk (plain_physical p) p.registers.base va ≡ Ok e → R6 p va
           → TlbAgrees (placed entries pointer e) p.registers.base p.memory p.bad h
       unfolding placed
       placed_agrees e found r6 =
@@ -161,7 +158,7 @@ module _ (b : Backing) (p : Plain) (h : History) (long : length b.memory ≡ len
         where
           at : h.base_stale ≡ false → (i : ℕ) (u : VirtualAddress) → Readable p.memory p.bad p.registers.base h u → pointer < length entries
               → covers u (get_or (placed entries pointer e) i empty_entry) ≡ true
-              → walk (plain_physical p) p.registers.base u ≡ walked.Found (get_or (placed entries pointer e) i empty_entry)
+              → walk (plain_physical p) p.registers.base u ≡ Ok (get_or (placed entries pointer e) i empty_entry)
           at f i u r k =
               case (eqb i pointer)
               (λ q.
@@ -177,15 +174,15 @@ module _ (b : Backing) (p : Plain) (h : History) (long : length b.memory ≡ len
       unfolding translation
       tlb_committed r6 = case (mmu p.registers) (λ m. rw m (by_lookup m (lookup entries va))) (λ m. rw m t)
         where
-          by_walk : R6 p va → (x : Mapping) → walk (plain_physical p) p.registers.base va ≡ x
+          by_walk : R6 p va → (x : Result Entry Cause) → walk (plain_physical p) p.registers.base va ≡ x
               → TlbAgrees (entries_after entries pointer (of_walk x)) p.registers.base p.memory p.bad h
-          by_walk r (walked.Found e) f = placed_agrees e f r
-          by_walk r (walked.Failed s d) f = t
+          by_walk r (Ok e) f = placed_agrees e f r
+          by_walk r (Err why) f = t
 
-          by_lookup : mmu p.registers ≡ true → (x : Search)
+          by_lookup : mmu p.registers ≡ true → (x : Option ℕ)
               → TlbAgrees (entries_after entries pointer (of_lookup entries p.registers (physical_behind b) va x)) p.registers.base p.memory p.bad h
-          by_lookup m (At i) = t
-          by_lookup m Nothing = by_walk (r6 m) (walk (physical_behind b) p.registers.base va) (sym (walk_agrees va (r4 m)))
+          by_lookup m (Some i) = t
+          by_lookup m None = by_walk (r6 m) (walk (physical_behind b) p.registers.base va) (sym (walk_agrees va (r4 m)))
 
 -- ---- the other steps
 
@@ -205,7 +202,7 @@ module _ (base : ℕ) (pm bad : List ℕ) (h : History) where
     tlb_dropped va = record { mapped = λ f i u c r. kept f i u r c }
       where
         kept : h.base_stale ≡ false → (i : ℕ) (u : VirtualAddress) → Readable pm bad base h u → covers u (get_or (dropped entries va) i empty_entry) ≡ true
-            → walk (physical pm bad) base u ≡ walked.Found (get_or (dropped entries va) i empty_entry)
+            → walk (physical pm bad) base u ≡ Ok (get_or (dropped entries va) i empty_entry)
         kept f i u r =
             rw (dropped_at entries va i)
             (case (covers va (get_or entries i empty_entry)) (λ k. rw k (λ c. clash c (empty_covers u))) (λ k. rw k (λ c. t.mapped f i u c r)))

@@ -1,6 +1,6 @@
 -- Terms 1 and 2 for whoever calls the code: what `sa110::start`, `sa110::call` and `sa110::run` give and leave, by their contracts alone, in words of
 -- the state, numbers of the record and lent bytes.
-use Rattle.std.specs.Prelude.{ℕ, ◌<◌, Bool, true, false, ◌||◌, ◌↔◌, ◌≡◌, List, eqb, get_or}
+use Rattle.std.specs.Prelude.{ℕ, ◌<◌, Bool, true, false, ◌||◌, ◌↔◌, ◌≡◌, List, eqb, get_or, Result, Ok, Err}
 use Rattle.values.specs.Answers.{fsr_of, status_of}
 use Rattle.values.specs.Registers.{zero_cp15}
 use Rattle.values.specs.Rows.{Row}
@@ -16,7 +16,7 @@ use Rattle.cache.specs.Dcache.{Side, gave_way}
 use Rattle.translation.specs.Alignment.{cleared}
 use Rattle.translation.specs.Translation.{translation, flat_place, place_of}
 use Rattle.translation.specs.declared.Translation.{Translation}
-use Rattle.translation.specs.declared.Translation.TheVariants.{Flat, Held, Walked, Failed}
+use Rattle.translation.specs.declared.Translation.TheVariants.{Flat, Held, Walked}
 use Rattle.translation.specs.declared.Place.{Place}
 use Rattle.machine.specs.Machine.{Machine, physical_of}
 use Rattle.step.specs.Meets.{start_meets, start_refusal, meets, refusal}
@@ -29,6 +29,7 @@ use Rattle.state.specs.declared.State.{State}
 use Rattle.sa110.specs.declared.Called.{Called}
 use Rattle.sa110.specs.declared.Ran.{Ran}
 use Rattle.state.specs.declared.Started.{Started}
+use Rattle.values.specs.declared.Cause.{Cause}
 
 -- ---- the contracts
 
@@ -124,11 +125,11 @@ abbrev pub on_fill : Status → Bool
 on_fill s = eqb (status_of s) 4 || eqb (status_of s) 6
 
 -- the place that a mapping gives
-abbrev pub place_by : VirtualAddress → Translation → Place
-place_by va Flat = flat_place va
-place_by va (Held e) = place_of e va
-place_by va (Walked e) = place_of e va
-place_by va (Failed s d) = flat_place va
+abbrev pub place_by : VirtualAddress → Result Translation Cause → Place
+place_by va (Ok Flat) = flat_place va
+place_by va (Ok (Held e)) = place_of e va
+place_by va (Ok (Walked e)) = place_of e va
+place_by va (Err why) = flat_place va
 
 -- what a fill's abort leaves of Dcache, write buffer and memory
 abbrev pub side_aborted : Machine → Call → Side

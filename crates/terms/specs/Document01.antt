@@ -1,6 +1,6 @@
 -- Document 01's plain machine, which has no map: "Outside, ... a load faults with 4 or 6 if M, C and the page's C bit are set; any other access with 8 or
 -- 10", by the word of the access alone; "It refuses by 5 to 12 alone". And what a run with a map of zeros has to do with it.
-use Rattle.std.specs.Prelude.{ℕ, cond, ◌≡◌, List, [], ◌∷◌, eqb}
+use Rattle.std.specs.Prelude.{ℕ, cond, ◌≡◌, List, [], ◌∷◌, eqb, Result, Ok, Err}
 use Rattle.values.specs.declared.Kind.{Kind}
 use Rattle.values.specs.declared.Kind.TheVariants.{Load, SignedLoad, Store, Swap}
 use Rattle.values.specs.declared.Access.{Access}
@@ -12,8 +12,6 @@ use Rattle.values.specs.declared.Answer.TheVariants as answer
 use Rattle.bus.specs.Physical.{no_bad_words, outside}
 use Rattle.translation.specs.Faults.{fills, fill_status, other_status}
 use Rattle.translation.specs.declared.Place.{Place}
-use Rattle.translation.specs.declared.Checked.{Checked}
-use Rattle.translation.specs.declared.Checked.TheVariants.{Passed, Denied}
 use Rattle.refusals.specs.Refusals.{refusal_in, row5, call_rows}
 use Rattle.trace.specs.Fold.{answers_of, final_of}
 use Rattle.step.specs.Start.{started}
@@ -23,6 +21,7 @@ use Rattle.plain.specs.Plain.{plain_read, plain_write, counted}
 use Rattle.machine.specs.Machine.{memory_of}
 use Rattle.terms.specs.Corollaries.{SettledBy}
 use Rattle.terms.specs.Term3.{Run}
+use Rattle.values.specs.declared.Cause.{Cause}
 
 -- the machine at the start: with no map no word is bad
 abbrev pub start01 : List ℕ → Plain
@@ -42,9 +41,9 @@ passed01 p a l SignedLoad = load01 p a l
 passed01 p a l (Store v) = plain_store p a v l
 passed01 p a l (Swap v) = plain_swap p a v l
 
-unfoldable pub at01 : Plain → Access → Checked → PlainStepped
-at01 p a (Denied s d) = plain_faulted p s d a.address
-at01 p a (Passed l) = passed01 p a l a.kind
+unfoldable pub at01 : Plain → Access → Result Place Cause → PlainStepped
+at01 p a (Err why) = plain_faulted p why.status why.domain a.address
+at01 p a (Ok l) = passed01 p a l a.kind
 
 abbrev pub done01 : Plain → Call → PlainStepped
 done01 p (calls.Access a) = at01 p a (plain_reach p a)

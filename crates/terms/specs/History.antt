@@ -1,6 +1,6 @@
 -- What the rules remember of a run. "cleans, drains and flushes are served writes; stores (dropped ones left out), walks and lines reached
 -- are the plain machine's." Whether a call is served is the plain machine's too: refusals 1 to 4 do not occur in a run after a served start.
-use Rattle.std.specs.Prelude.{ℕ, ◌/◌, Bool, true, false, cond, ◌&&◌, ◌||◌, List, [], ◌∷◌, eqb}
+use Rattle.std.specs.Prelude.{ℕ, ◌/◌, Bool, true, false, cond, ◌&&◌, ◌||◌, List, [], ◌∷◌, eqb, Result, Ok, Err}
 use Rattle.values.specs.Addresses.{virtual_line, physical_line, word_of}
 use Rattle.values.specs.declared.VirtualAddress.{VirtualAddress}
 use Rattle.values.specs.declared.PhysicalAddress.{PhysicalAddress}
@@ -12,10 +12,10 @@ use Rattle.values.specs.declared.Call.TheVariants.{Read, Write}
 use Rattle.values.specs.declared.Call.TheVariants as calls
 use Rattle.bus.specs.Physical.{Physical, aborts}
 use Rattle.translation.specs.Alignment.{cleared}
-use Rattle.translation.specs.declared.Checked.{Checked}
-use Rattle.translation.specs.declared.Checked.TheVariants.{Passed, Denied}
 use Rattle.cp15.specs.Operations.{flushes_dcache, cleans_line, drains, flushes_tlb}
 use Rattle.plain.specs.Plain.{Plain, plain_physical, plain_reach, plain_refusal, plainly}
+use Rattle.values.specs.declared.Cause.{Cause}
+use Rattle.translation.specs.declared.Place.{Place}
 
 -- How far a line or a word has come since its last store: never stored to, stored, then cleaned, then drained, then the TLB flushed.
 pub data Stage : Type 0 where
@@ -85,9 +85,9 @@ with_reach h va pa =
     }
 
 -- "every data access whose translation and rights pass reaches a line, even one outside memory"
-unfoldable pub after_reach : History → VirtualAddress → Checked → History
-after_reach h va (Denied s d) = h
-after_reach h va (Passed l) = with_reach h va l.address
+unfoldable pub after_reach : History → VirtualAddress → Result Place Cause → History
+after_reach h va (Err why) = h
+after_reach h va (Ok l) = with_reach h va l.address
 
 -- a line and a word of it are stored to, through a virtual line
 abbrev pub with_store : History → VirtualAddress → PhysicalAddress → History
@@ -101,12 +101,12 @@ with_store h va pa =
     }
 
 -- a store or a swap, "dropped ones left out", outside memory or at a bad word, and those that fault
-unfoldable pub after_store : History → Physical → VirtualAddress → Checked → History
-after_store h memory va (Denied s d) = h
-after_store h memory va (Passed l) = cond (aborts memory l.address) h (with_store h va l.address)
+unfoldable pub after_store : History → Physical → VirtualAddress → Result Place Cause → History
+after_store h memory va (Err why) = h
+after_store h memory va (Ok l) = cond (aborts memory l.address) h (with_store h va l.address)
 
 -- what an access of a kind stores; a swap as a store
-abbrev pub after_kind : Kind → History → Physical → VirtualAddress → Checked → History
+abbrev pub after_kind : Kind → History → Physical → VirtualAddress → Result Place Cause → History
 after_kind Load h memory va c = h
 after_kind SignedLoad h memory va c = h
 after_kind (Store v) h memory va c = after_store h memory va c

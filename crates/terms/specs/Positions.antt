@@ -1,6 +1,6 @@
 -- R2 to R6 and the end of document 01, over positions in the list of calls: call 0 is the first after the start. Every test is computed from
 -- the start's memory, the map and the list. (R1 is the threading of the machine from call to call, in a run.)
-use Rattle.std.specs.Prelude.{ℕ, zero, suc, ◌+◌, ◌*◌, ◌/◌, Bool, true, false, cond, not, ◌&&◌, ◌||◌, List, eqb, ltb, length, get_or, take}
+use Rattle.std.specs.Prelude.{ℕ, zero, suc, ◌+◌, ◌*◌, ◌/◌, Bool, true, false, cond, not, ◌&&◌, ◌||◌, List, eqb, ltb, length, get_or, take, Result, Ok, Err}
 use Rattle.values.specs.Lists.{any}
 use Rattle.values.specs.Kinds.{is_store}
 use Rattle.values.specs.Addresses.{virtual_line, physical_line, word_of}
@@ -15,11 +15,11 @@ use Rattle.bus.specs.Physical.{aborts}
 use Rattle.walk.specs.Walk.{walk}
 use Rattle.walk.specs.Reads.{words_read}
 use Rattle.translation.specs.Alignment.{cleared}
-use Rattle.translation.specs.declared.Checked.{Checked}
-use Rattle.translation.specs.declared.Checked.TheVariants.{Passed, Denied}
 use Rattle.cp15.specs.Operations as cp15
 use Rattle.plain.specs.Plain.{Plain, plain_start, plain_final, plain_physical, plain_reach, plain_refusal}
 use Rattle.terms.specs.Rules.{walks, is_large, level_two}
+use Rattle.values.specs.declared.Cause.{Cause}
+use Rattle.translation.specs.declared.Place.{Place}
 
 -- ---- positions
 
@@ -51,13 +51,13 @@ of_write f (Read t) = false
 of_write f (Write t v) = f t v
 
 -- whether translation and rights pass, and the physical address that they give
-abbrev pub passes : Checked → Bool
-passes (Denied s d) = false
-passes (Passed l) = true
+abbrev pub passes : Result Place Cause → Bool
+passes (Err why) = false
+passes (Ok l) = true
 
-abbrev pub address_in : Checked → PhysicalAddress
-address_in (Denied s d) = record { 0 = 0 }
-address_in (Passed l) = l.address
+abbrev pub address_in : Result Place Cause → PhysicalAddress
+address_in (Err why) = record { 0 = 0 }
+address_in (Ok l) = l.address
 
 -- what stands behind the list's end, where no call is served
 abbrev pub past_end : Call

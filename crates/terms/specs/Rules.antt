@@ -1,5 +1,5 @@
 -- R2 to R6 and the end, at one call and over a list of calls. (R1 is the threading of the machine from call to call, in a run.)
-use Rattle.std.specs.Prelude.{ℕ, ◌+◌, ◌*◌, ◌/◌, ◌<◌, Bool, true, false, not, ◌&&◌, ◌≡◌, List, [], ◌∷◌, eqb}
+use Rattle.std.specs.Prelude.{ℕ, ◌+◌, ◌*◌, ◌/◌, ◌<◌, Bool, true, false, not, ◌&&◌, ◌≡◌, List, [], ◌∷◌, eqb, Result, Ok, Err}
 use Rattle.values.specs.Lists.{all}
 use Rattle.values.specs.Addresses.{virtual_line, physical_line}
 use Rattle.values.specs.Control.{mmu}
@@ -13,14 +13,13 @@ use Rattle.words.specs.Words.{value_at}
 use Rattle.bus.specs.Physical.{Physical, aborts}
 use Rattle.walk.specs.Walk.{walk, first_address, second_address}
 use Rattle.walk.specs.Reads.{words_read}
-use Rattle.walk.specs.declared.Mapping.{Mapping}
-use Rattle.walk.specs.declared.Mapping.TheVariants.{Found, Failed}
 use Rattle.translation.specs.Alignment.{alignment_faults, cleared}
-use Rattle.translation.specs.declared.Checked.{Checked}
-use Rattle.translation.specs.declared.Checked.TheVariants.{Passed, Denied}
 use Rattle.cp15.specs.Operations.{flushes_dcache, flushes_line}
 use Rattle.plain.specs.Plain.{Plain, plain_physical, plain_reach, plain_refusal, plainly}
 use Rattle.terms.specs.History.{Stage, never, stored, cleaned, drained, flushed, History, after}
+use Rattle.values.specs.declared.Cause.{Cause}
+use Rattle.values.specs.declared.Entry.{Entry}
+use Rattle.translation.specs.declared.Place.{Place}
 
 -- ---- stages as tests
 
@@ -51,9 +50,9 @@ is_drained flushed = true
 -- ---- R2
 
 -- "each physical line is reached through one virtual line and each virtual line reaches one physical line"
-abbrev pub R2 : History → VirtualAddress → Checked → Type 0
-R2 h va (Denied s d) = Unit {0}
-R2 h va (Passed l) =
+abbrev pub R2 : History → VirtualAddress → Result Place Cause → Type 0
+R2 h va (Err why) = Unit {0}
+R2 h va (Ok l) =
     (v p : ℕ) → h.reached v p ≡ true
     → (v ≡ virtual_line va → p ≡ physical_line l.address) × (p ≡ physical_line l.address → v ≡ virtual_line va)
 
@@ -82,9 +81,9 @@ R5 h = h.base_stale ≡ false
 
 -- "at each access for which the plain walk finds a large page, the aligned group of sixteen words round that level 2 word lies in memory and
 -- all are equal"; document 02, Five: "R6's sixteen words are good ones"
-abbrev pub is_large : Mapping → Bool
-is_large (Found e) = eqb e.size 1
-is_large (Failed s d) = false
+abbrev pub is_large : Result Entry Cause → Bool
+is_large (Ok e) = eqb e.size 1
+is_large (Err why) = false
 
 -- the address of the level 2 word
 abbrev pub level_two : List ℕ → ℕ → VirtualAddress → ℕ

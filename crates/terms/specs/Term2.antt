@@ -1,6 +1,6 @@
 -- Term 2, beyond the contracts: the fault table in document 01's order. An accepted access faults with the first row whose condition holds,
 -- and with no fault where none does.
-use Rattle.std.specs.Prelude.{ℕ, ◌%◌, Bool, true, false, cond, not, ◌&&◌, ◌||◌, ◌≡◌, List, [], ◌∷◌, eqb}
+use Rattle.std.specs.Prelude.{ℕ, ◌%◌, Bool, true, false, cond, not, ◌&&◌, ◌||◌, ◌≡◌, List, [], ◌∷◌, eqb, Option, Some, None, Result, Ok, Err}
 use Rattle.values.specs.Kinds.{is_store, is_swap}
 use Rattle.values.specs.Rows.{Row, first_met}
 use Rattle.values.specs.Control.{mmu, system, rom}
@@ -12,8 +12,6 @@ use Rattle.values.specs.declared.Fault.{Fault}
 use Rattle.values.specs.declared.Status.{Status}
 use Rattle.values.specs.declared.Status.TheVariants.{Alignment, WalkFirst, WalkSecond, TranslationSection, TranslationPage, DomainSection, DomainPage}
 use Rattle.values.specs.declared.Status.TheVariants.{PermissionSection, PermissionPage, FillSection, FillPage, OtherSection, OtherPage}
-use Rattle.values.specs.declared.Search.{Search}
-use Rattle.values.specs.declared.Search.TheVariants.{At, Nothing}
 use Rattle.values.specs.declared.Call.{Call}
 use Rattle.values.specs.declared.Call.TheVariants.{Read, Write}
 use Rattle.values.specs.declared.Call.TheVariants as calls
@@ -28,41 +26,40 @@ use Rattle.translation.specs.Translation.{translation}
 use Rattle.bus.specs.Physical.{Physical, aborts, wanted_aborts}
 use Rattle.translation.specs.Faults.{fills, buffers}
 use Rattle.translation.specs.declared.Translation.{Translation}
-use Rattle.translation.specs.declared.Translation.TheVariants.{Flat, Held, Walked, Failed}
+use Rattle.translation.specs.declared.Translation.TheVariants.{Flat, Held, Walked}
 use Rattle.translation.specs.declared.Place.{Place}
 use Rattle.step.specs.Meets.{refusal}
 use Rattle.step.specs.Call.{served}
 use Rattle.bus.specs.Reader.{descriptor_at}
-use Rattle.bus.specs.declared.Descriptor.{Descriptor}
-use Rattle.bus.specs.declared.Descriptor.TheVariants.{Word, Outside}
 use Rattle.machine.specs.Machine.{Machine, physical_of}
 use Rattle.terms.specs.Callers.{place_by, FaultLeaves}
+use Rattle.values.specs.declared.Cause.{Cause}
 
 -- ---- the walk's words
 
-abbrev pub is_outside : Descriptor → Bool
-is_outside Outside = true
-is_outside (Word w) = false
+abbrev pub is_outside : Option ℕ → Bool
+is_outside None = true
+is_outside (Some w) = false
 
-abbrev pub word_in : Descriptor → ℕ
-word_in Outside = 0
-word_in (Word w) = w
+abbrev pub word_in : Option ℕ → ℕ
+word_in None = 0
+word_in (Some w) = w
 
 -- a word whose low two bits are these
-abbrev pub has_bits : ℕ → Descriptor → Bool
-has_bits k Outside = false
-has_bits k (Word w) = eqb (w % 4) k
+abbrev pub has_bits : ℕ → Option ℕ → Bool
+has_bits k None = false
+has_bits k (Some w) = eqb (w % 4) k
 
-abbrev pub is_nothing : Search → Bool
-is_nothing (At i) = false
-is_nothing Nothing = true
+abbrev pub is_nothing : Option ℕ → Bool
+is_nothing (Some i) = false
+is_nothing None = true
 
 -- the mapping that serves; a failed walk has its row above those that ask
-abbrev pub entry_of : Translation → Entry
-entry_of Flat = empty_entry
-entry_of (Held e) = e
-entry_of (Walked e) = e
-entry_of (Failed s d) = empty_entry
+abbrev pub entry_of : Result Translation Cause → Entry
+entry_of (Ok Flat) = empty_entry
+entry_of (Ok (Held e)) = e
+entry_of (Ok (Walked e)) = e
+entry_of (Err why) = empty_entry
 
 -- ---- the table
 
@@ -95,17 +92,17 @@ module _ (m : Machine) (a : Access) where
   abbrev swap : Bool
   swap = is_swap a.kind
 
-  abbrev mapping : Translation
+  abbrev mapping : Result Translation Cause
   mapping = translation m.entries regs memory (cleared a)
 
   -- "Otherwise the walk reads memory": M is set and no TLB entry covers the address
   abbrev walked : Bool
   walked = mmu regs && is_nothing (lookup m.entries (cleared a))
 
-  abbrev one : Descriptor
+  abbrev one : Option ℕ
   one = descriptor_at memory (first_address regs.base (cleared a))
 
-  abbrev two : Descriptor
+  abbrev two : Option ℕ
   two = descriptor_at memory (second_address (word_in one) (cleared a))
 
   abbrev right : ℕ

@@ -1,7 +1,10 @@
 -- What the code of storing and reading has: the bytes behind the numbers, and each step's part of the definitions.
-use Rattle.std.specs.Prelude.{ℕ, true, false, cond, ◌&&◌, ◌≡◌, List, [], ◌∷◌, ◌++◌, eqb, ltb, length}
+use Rattle.std.specs.Prelude.{ℕ, Result, Ok, Err, true, cond, ◌&&◌, ◌≡◌, List, [], ◌∷◌, ◌++◌, eqb, ltb, length}
+use Rattle.values.specs.declared.Answer.{Answer}
 use Rattle.values.specs.declared.Answer.TheVariants as answer
 use Rattle.printed.specs.Code.{over}
+use Rattle.refusals.specs.declared.Refusal.{Refusal}
+use Rattle.refusals.specs.Numbers.{number_of}
 use Rattle.refusals.specs.Refusals.{refusal_in, row1, row3, row4}
 use Rattle.machine.specs.Machine.{Machine, memory_of, fresh}
 use Rattle.soundness.specs.Soundness.{sound}
@@ -9,7 +12,7 @@ use Rattle.step.specs.Start.{Started, started_from}
 use Rattle.state.specs.State.{machine_in}
 use Rattle.form.specs.Code.{lines_separators}
 use Rattle.numbers.specs.Text.{form, machine_with, text_of}
-use Rattle.numbers.specs.Code.{AllHold}
+use Rattle.numbers.specs.Code.{Unfit}
 use Rattle.text.specs.Store.{Stored, stored_from}
 use Rattle.text.specs.declared.Restored.{Restored}
 
@@ -31,11 +34,22 @@ stored_room m slice =
 abbrev pub refused_by : List ℕ → List ℕ → List ℕ → ℕ → Started
 refused_by memory bad store n = started_from (fresh 0 memory bad store) n
 
--- state and record made of numbers
-pub record RestoredIs (ns : List ℕ) (r : Restored) : Type 0 where
-  pub same : r.fits ≡ true → (memory bad store : List ℕ) → machine_in memory bad store r.state r.cp15 ≡ machine_with memory bad store (form.thing ns)
-  pub fit : r.fits ≡ true → form.fits ns ≡ true
-  pub unfit : r.fits ≡ false → form.fits ns ≡ true → AllHold (form.thing ns) → ⊥
+-- the machine of a state and a record, or a refused read
+abbrev pub started_by : List ℕ → List ℕ → List ℕ → Result Restored Refusal → Started
+started_by memory bad store (Ok r) = started_from (machine_in memory bad store r.state r.cp15) 0
+started_by memory bad store (Err e) = refused_by memory bad store (number_of e)
+
+-- what storing answers: the text's length, or a refusal's number
+abbrev pub answer_of : Result ℕ Refusal → Answer
+answer_of (Ok n) = answer.Value n
+answer_of (Err e) = answer.Refused (number_of e)
+
+-- state and record made of numbers, or 3
+abbrev pub RestoredIs : List ℕ → Result Restored Refusal → Type 0
+RestoredIs ns (Ok r) =
+    ((memory bad store : List ℕ) → machine_in memory bad store r.state r.cp15 ≡ machine_with memory bad store (form.thing ns))
+    × (form.fits ns ≡ true)
+RestoredIs ns (Err e) = (number_of e ≡ 3) × Unfit ns
 
 -- 3 and 4 of reading, by the numbers of the text
 module _ (memory bad store ns : List ℕ) where

@@ -2,11 +2,13 @@
 #![tactic(auto)]
 
 ghost use Rattle.std.specs.Prelude.{◌≡◌, List, ℕ, ◌<◌, ◌≤◌, length};
+ghost use Rattle.refusals.specs.Numbers.{refusal_code};
 ghost use Rattle.state.specs.State.{machine_in, started_of};
 ghost use Rattle.text.specs.Store as storing;
 ghost use Rattle.text.specs.Read as reading;
 ghost use Rattle.text.specs.Code as code;
 
+use refusals::Refusal;
 use state::{Started, State};
 use values::{Answer, Cp15};
 
@@ -22,26 +24,27 @@ fn separators() -> [u8; 3085]
     out
 }
 
-// Refusals 1, 3 and 4 of storing, for a memory of n bytes, or 0.
-fn state_refusal(state: State, cp15: Cp15, n: usize) -> u32
-    ensures { (memory bad store : List ℕ) → length memory ≡ n → result ≡ code.store_state_refusal (machine_in memory bad store state cp15) }
+// Refusals 1, 3 and 4 of storing, for a memory of n bytes.
+fn state_refusal(state: State, cp15: Cp15, n: usize) -> Result<(), Refusal>
+    ensures { (memory bad store : List ℕ) → length memory ≡ n
+        → refusal_code result ≡ code.store_state_refusal (machine_in memory bad store state cp15) }
 {
-    if refusals::length_fits(n) {
-        if state::is_sound(state, cp15, n) {
-            if state.size == n {
-                return 0;
-            }
-            return 4;
-        }
-        return 3;
+    if !refusals::length_fits(n) {
+        return Err(Refusal::Memory);
     }
-    1
+    if !state::is_sound(state, cp15, n) {
+        return Err(Refusal::State);
+    }
+    if state.size != n {
+        return Err(Refusal::Length);
+    }
+    Ok(())
 }
 
-// A state stored where the slice is long enough; 15 where it is not.
-fn store_sound(state: State, cp15: Cp15, text: &mut [u8]) -> Answer
+// A state stored where the slice is long enough; refusal 15 where it is not.
+fn store_sound(state: State, cp15: Cp15, text: &mut [u8]) -> Result<u32, Refusal>
     requires { (state.size < 0x100000000) × (state.used < 0x100000000) }
-    ensures { (memory bad store : List ℕ) → storing.stored_from text.new result
+    ensures { (memory bad store : List ℕ) → storing.stored_from text.new (code.answer_of result)
         ≡ code.stored_room (machine_in memory bad store state cp15) text.old }
 {
     let entries = state.entries;
@@ -66,11 +69,20 @@ fn store_sound(state: State, cp15: Cp15, text: &mut [u8]) -> Answer
     );
     let size = form::text_size(&numbers);
     if size > text.len() {
-        return Answer::Refused(15);
+        return Err(Refusal::Room);
     }
     let behind = separators();
     form::put_numbers(text, &behind, &numbers);
-    Answer::Value(size as u32)
+    Ok(size as u32)
+}
+
+// A state stored where refusals 1, 3, 4 and 15 are not met: the text's length.
+fn store_text(state: State, cp15: Cp15, memory: &[u8], text: &mut [u8]) -> Result<u32, Refusal>
+    ensures { (bad store : List ℕ) → storing.stored_from text.new (code.answer_of result)
+        ≡ storing.stored (machine_in memory.now bad store state cp15) text.old }
+{
+    state_refusal(state, cp15, memory.len())?;
+    store_sound(state, cp15, text)
 }
 
 // Stores a state and a record as text at the front of a slice, whose bytes behind the text stay. It answers the text's length, or refusal 1, 3, 4 or 15,
@@ -79,34 +91,21 @@ pub fn store(state: State, cp15: Cp15, memory: &[u8], text: &mut [u8]) -> Answer
     ensures { (bad store : List ℕ) → storing.stored_from text.new result
         ≡ storing.stored (machine_in memory.now bad store state cp15) text.old }
 {
-    let n = state_refusal(state, cp15, memory.len());
-    if n != 0 {
-        return Answer::Refused(n);
-    }
-    store_sound(state, cp15, text)
-}
-
-// A refused read: a state and a record all zeros.
-fn refused(n: u32) -> Started
-    ensures { (memory bad store : List ℕ) → started_of memory bad store result ≡ code.refused_by memory bad store n }
-{
-    Started {
-        state: state::fresh(0),
-        cp15: values::zero_cp15(),
-        refusal: n,
+    match store_text(state, cp15, memory, text) {
+        Ok(size) => Answer::Value(size),
+        Err(r) => Answer::Refused(u32::from(r)),
     }
 }
 
-// The state and the record of numbers; `fits` is false only where a number does not fit, or an entry or a line is not as in a sound state.
+// The state and the record of numbers.
 #[derive(Clone, Copy)]
 pub struct Restored {
     pub state: State,
     pub cp15: Cp15,
-    pub fits: bool,
 }
 
-// The state and the record of numbers.
-fn restore(ns: &[u32]) -> Restored
+// The state and the record of numbers; refusal 3 only where a number does not fit, or an entry or a line is not as in a sound state.
+fn restore(ns: &[u32]) -> Result<Restored, Refusal>
     requires { length ns.now ≡ 3085 }
     ensures { code.RestoredIs ns.now result }
 {
@@ -115,15 +114,16 @@ fn restore(ns: &[u32]) -> Restored
     let mut pointers = [0u32; 16];
     let mut words = [0u64; 8];
     let mut bytes = [[0u8; 16]; 8];
-    let read = numbers::read_all(
+    let Some(head) = numbers::read_all(
         ns,
         &mut entries,
         &mut lines,
         &mut pointers,
         &mut words,
         &mut bytes,
-    );
-    let head = read.head;
+    ) else {
+        return Err(Refusal::State);
+    };
     let cp15 = head.cp15;
     let counts = head.counts;
     let slots = state::packed(bytes);
@@ -137,36 +137,39 @@ fn restore(ns: &[u32]) -> Restored
         words,
         slots,
     };
-    Restored {
-        state,
-        cp15,
-        fits: read.fits,
-    }
+    Ok(Restored { state, cp15 })
 }
 
 // The state and the record of numbers, for a memory of n bytes, or refusal 3 or 4.
-fn read_state(ns: &[u32], n: usize) -> Started
+fn read_state(ns: &[u32], n: usize) -> Result<Restored, Refusal>
     requires { (length ns.now ≡ 3085) × (n ≤ 0x1000000) }
     ensures { (memory bad store : List ℕ) → length memory ≡ n
-        → started_of memory bad store result ≡ code.read_numbers memory bad store ns.now }
+        → code.started_by memory bad store result ≡ code.read_numbers memory bad store ns.now }
 {
-    let r = restore(ns);
-    let state = r.state;
-    let cp15 = r.cp15;
-    if r.fits {
-        if state::is_sound(state, cp15, n) {
-            if state.size == n {
-                return Started {
-                    state,
-                    cp15,
-                    refusal: 0,
-                };
-            }
-            return refused(4);
-        }
-        return refused(3);
+    let r = restore(ns)?;
+    if !state::is_sound(r.state, r.cp15, n) {
+        return Err(Refusal::State);
     }
-    refused(3)
+    if r.state.size != n {
+        return Err(Refusal::Length);
+    }
+    Ok(r)
+}
+
+// The state and the record that a text has, or refusal 1, 14, 3 or 4.
+fn read_text(memory: &[u8], text: &[u8]) -> Result<Restored, Refusal>
+    ensures { (bad store : List ℕ) → code.started_by memory.now bad store result
+        ≡ reading.read_back memory.now bad store text.now }
+{
+    if !refusals::length_fits(memory.len()) {
+        return Err(Refusal::Memory);
+    }
+    let behind = separators();
+    let mut ns = [0u32; 3085];
+    if !form::read_numbers(text, &behind, &mut ns) {
+        return Err(Refusal::Text);
+    }
+    read_state(&ns, memory.len())
 }
 
 // Reads a text back: the state and the record that it has, or refusal 1, 14, 3 or 4 with a state and a record all zeros.
@@ -174,13 +177,16 @@ pub fn read(memory: &[u8], text: &[u8]) -> Started
     ensures { (bad store : List ℕ) → started_of memory.now bad store result
         ≡ reading.read_back memory.now bad store text.now }
 {
-    if refusals::length_fits(memory.len()) {
-        let behind = separators();
-        let mut ns = [0u32; 3085];
-        if form::read_numbers(text, &behind, &mut ns) {
-            return read_state(&ns, memory.len());
-        }
-        return refused(14);
+    match read_text(memory, text) {
+        Ok(r) => Started {
+            state: r.state,
+            cp15: r.cp15,
+            refusal: 0,
+        },
+        Err(r) => Started {
+            state: state::fresh(0),
+            cp15: values::zero_cp15(),
+            refusal: u32::from(r),
+        },
     }
-    refused(1)
 }

@@ -1,4 +1,5 @@
 -- The cases of the TLB's operations on words.
+use Rattle.std.specs.Prelude.{Some, None}
 use Prim.Native.Nat.{ℕ, ◌+◌, ◌*◌, ◌/◌, ◌%◌, ◌^◌, ◌<◌, ◌≤◌}
 use native.Mathlib.Omega.{arith}
 use mathlib.Core.Bool.{Bool, true, false}
@@ -11,10 +12,9 @@ use Rattle.values.specs.Lists.{first_from}
 use Rattle.values.specs.Empty.{empty_entry}
 use Rattle.values.specs.declared.VirtualAddress.{VirtualAddress}
 use Rattle.values.specs.declared.Entry.{Entry}
-use Rattle.values.specs.declared.Search.TheVariants.{At, Nothing}
 use Rattle.values.proofs.Searches.{search_hit, search_on, search_end}
-use Rattle.values.proofs.Maps.{map_set, words_step}
-use Rattle.values.proofs.InPlace.{Upto, upto_end, map_constant}
+use Rattle.values.proofs.Maps.{map_set, map_replicate, words_step}
+use Rattle.values.proofs.InPlace.{Upto, upto_end}
 use Rattle.tlb.specs.Tlb.{covers, translated, ap_of, placed, flushed, dropped, kept_of}
 use Rattle.tlb.specs.Packing.{entry_of, word_of, entries_of}
 use Rattle.walk.specs.Ranges.{InRange}
@@ -74,14 +74,14 @@ module _ (ws : List ℕ) (va : VirtualAddress) (i : ℕ) where
   there : (b : Bool) → covers va (entry_of (get_or ws i 0)) ≡ b → covers va (get_or (entries_of ws) i empty_entry) ≡ b
   there b t = ap (covers va) (entry_at ws i) ∙ t
 
-  pub lookup_hit : i < length ws → covers va (entry_of (get_or ws i 0)) ≡ true → first_from (covers va) i (drop i (entries_of ws)) ≡ At i
+  pub lookup_hit : i < length ws → covers va (entry_of (get_or ws i 0)) ≡ true → first_from (covers va) i (drop i (entries_of ws)) ≡ Some i
   lookup_hit h t = search_hit (covers va) (entries_of ws) empty_entry i i (rw length-map h) (there true t)
 
   pub lookup_on : i < length ws → covers va (entry_of (get_or ws i 0)) ≡ false
       → first_from (covers va) i (drop i (entries_of ws)) ≡ first_from (covers va) (i + 1) (drop (i + 1) (entries_of ws))
   lookup_on h t = search_on (covers va) (entries_of ws) empty_entry i i (rw length-map h) (there false t)
 
-  pub lookup_end : length ws ≤ i → first_from (covers va) i (drop i (entries_of ws)) ≡ Nothing
+  pub lookup_end : length ws ≤ i → first_from (covers va) i (drop i (entries_of ws)) ≡ None
   lookup_end h = search_end (covers va) (entries_of ws) empty_entry i i (rw length-map h)
 
 -- ---- replacement
@@ -95,15 +95,10 @@ pub entries_step : (f : Entry → Entry) (old ws : List ℕ) (i w : ℕ) → Upt
     → entry_of w ≡ f (entry_of (get_or ws i 0)) → Upto f (entries_of old) (entries_of (set ws i w)) (i + 1)
 entries_step f old ws i w u h e = words_step entry_of empty_entry entry_zero f old ws i w u h e
 
--- the constant function of a flush
-abbrev pub emptied : Entry → Entry
-emptied e = empty_entry
-
-pub flush_end : (old ws : List ℕ) (i : ℕ) → Upto emptied (entries_of old) (entries_of ws) i → length old ≡ 32 → 32 ≤ i → entries_of ws ≡ flushed
+-- zeros are empty entries
+pub flush_all : (n : ℕ) → n ≡ 32 → entries_of (replicate n 0) ≡ flushed
 unfolding flushed
-flush_end old ws i u n h =
-    upto_end emptied (entries_of old) (entries_of ws) i u (rw length-map (omega arith)) ∙ map_constant empty_entry (entries_of old)
-    ∙ ap (λ (k : ℕ). replicate k empty_entry) (length-map old entry_of ∙ n)
+flush_all n h = map_replicate entry_of n 0 ∙ ap (replicate n) entry_zero ∙ ap (λ (k : ℕ). replicate k empty_entry) h
 
 pub drop_end : (old ws : List ℕ) (va : VirtualAddress) (i : ℕ) → Upto (kept_of va) (entries_of old) (entries_of ws) i → length old ≤ i
     → entries_of ws ≡ dropped (entries_of old) va

@@ -1,11 +1,10 @@
 -- The TLB: 32 entries and a pointer.
-use Rattle.std.specs.Prelude.{ℕ, ◌+◌, ◌*◌, ◌/◌, ◌%◌, ◌^◌, Bool, cond, ◌&&◌, List, map, eqb, set}
+use Rattle.std.specs.Prelude.{ℕ, ◌+◌, ◌*◌, ◌/◌, ◌%◌, ◌^◌, Bool, cond, ◌&&◌, List, map, eqb, set, Option}
 use Rattle.values.specs.Lists.{first_from}
 use Rattle.values.specs.Empty.{empty_entry, no_entries}
 use Rattle.values.specs.declared.VirtualAddress.{VirtualAddress}
 use Rattle.values.specs.declared.PhysicalAddress.{PhysicalAddress}
 use Rattle.values.specs.declared.Entry.{Entry}
-use Rattle.values.specs.declared.Search.{Search}
 
 -- the part of an address that an entry of a size translates: VA[31:20], VA[31:16], VA[31:12]
 abbrev pub base_of : ℕ → ℕ → ℕ
@@ -20,7 +19,7 @@ unfoldable pub covers : VirtualAddress → Entry → Bool
 covers va e = e.valid && eqb (base_of e.size va.0) e.vbase
 
 -- "The lowest-numbered TLB entry that covers the address serves."
-unfoldable pub lookup : List Entry → VirtualAddress → Search
+unfoldable pub lookup : List Entry → VirtualAddress → Option ℕ
 lookup entries va = first_from (covers va) 0 entries
 
 -- the physical address that an entry gives

@@ -8,7 +8,7 @@ ghost use Rattle.tlb.specs.Packing.{entry_of, word_of, entries_of};
 ghost use Rattle.tlb.specs.Keyed.{key_of, keys_of};
 ghost use Rattle.walk.specs.Ranges.{InRange};
 
-use values::{Entry, PhysicalAddress, Search, VirtualAddress};
+use values::{Entry, PhysicalAddress, VirtualAddress};
 
 // The entry that a word stands for.
 pub fn entry_of(w: u64) -> Entry
@@ -101,22 +101,17 @@ fn has_key(w: u64, k: Keys) -> bool
 }
 
 // The lowest-numbered entry that covers an address.
-pub fn lookup(entries: &[u64], va: VirtualAddress) -> Search
+pub fn lookup(entries: &[u64], va: VirtualAddress) -> Option<usize>
     requires { (length entries.now ≡ 32) × ((i : ℕ) → i < 32 → InRange (entry_of (get_or entries.now i 0))) }
     ensures { result ≡ spec.lookup (entries_of entries.now) va }
 {
     let k = keys_of(va);
-    let mut i: usize = 0;
-    let found = loop {
-        if i == 32 {
-            break Search::Nothing;
-        }
+    for i in 0..32 {
         if has_key(entries[i], k) {
-            break Search::At(i);
+            return Some(i);
         }
-        i += 1;
-    };
-    found
+    }
+    None
 }
 
 // The physical address that an entry gives.
@@ -167,11 +162,7 @@ pub fn flush(entries: &mut [u64])
     requires { length entries.old ≡ 32 }
     ensures { entries_of entries.new ≡ flushed }
 {
-    let mut i: usize = 0;
-    while i < 32 {
-        entries[i] = 0;
-        i += 1;
-    }
+    entries.fill(0);
 }
 
 // The word of an entry, or 0 where the entry covers the address.
@@ -186,9 +177,7 @@ pub fn drop_covering(entries: &mut [u64], va: VirtualAddress)
     requires { length entries.old ≡ 32 }
     ensures { entries_of entries.new ≡ dropped (entries_of entries.old) va }
 {
-    let mut i: usize = 0;
-    while i < 32 {
-        entries[i] = kept(entries[i], va);
-        i += 1;
+    for w in entries {
+        *w = kept(*w, va);
     }
 }

@@ -1,4 +1,4 @@
-// Calls and answers as numbers, for runs over lent lists.
+// Calls and answers as numbers, for runs over lent lists: five numbers a call and one an answer, as C lends them.
 #![tactic(auto)]
 
 ghost use Rattle.std.specs.Prelude.{◌≡◌, ℕ, ◌+◌, ◌*◌, ◌/◌, ◌≤◌, min, length, get_or};
@@ -36,33 +36,29 @@ fn transfer_of(privileged: u32, register: u32, pair: u32) -> Transfer
 }
 
 // What an access of this number does, with the value of its fifth number: 0 load, 1 signed load, 2 store, and swap.
+#[tactic(auto, unfolding(crate::specs::Calls::call_of))]
 fn kind_of(kind: u32, v: u32) -> Kind
     ensures { (kind ≡ 3 → ⊥) → (kind ≡ 4 → ⊥) → (privileged n a : ℕ)
         → spec.call_of kind privileged n a v ≡ Call.Access (spec.access_of result privileged n a) }
 {
-    if kind == 0 {
-        return Kind::Load;
+    match kind {
+        0 => Kind::Load,
+        1 => Kind::SignedLoad,
+        2 => Kind::Store(v),
+        _ => Kind::Swap(v),
     }
-    if kind == 1 {
-        return Kind::SignedLoad;
-    }
-    if kind == 2 {
-        return Kind::Store(v);
-    }
-    Kind::Swap(v)
 }
 
 // The call of five numbers.
+#[tactic(auto, unfolding(crate::specs::Calls::call_of))]
 pub fn call_of(kind: u32, privileged: u32, n: u32, a: u32, v: u32) -> Call
     ensures { result ≡ spec.call_of kind privileged n a v }
 {
-    if kind == 3 {
-        return Call::Read(transfer_of(privileged, n, a));
+    match kind {
+        3 => Call::Read(transfer_of(privileged, n, a)),
+        4 => Call::Write(transfer_of(privileged, n, a), v),
+        _ => Call::Access(access_of(kind_of(kind, v), privileged, n, a)),
     }
-    if kind == 4 {
-        return Call::Write(transfer_of(privileged, n, a), v);
-    }
-    Call::Access(access_of(kind_of(kind, v), privileged, n, a))
 }
 
 // Call i of a list of five numbers a call.
@@ -107,21 +103,7 @@ pub fn is_call_at(list: &[u32], i: usize) -> bool
     ensures { result ≡ spec.is_call_at list.now i }
 {
     let at = i * 5;
-    if list[at] <= 5 {
-        return list[at + 1] <= 1;
-    }
-    false
-}
-
-// A signed number as 32 bits.
-fn unsigned(z: i32) -> u32
-    ensures { result ≡ codes.unsigned_of z }
-{
-    if z < 0 {
-        0xFFFFFFFF - ((!z) as u32)
-    } else {
-        z as u32
-    }
+    list[at] <= 5 && list[at + 1] <= 1
 }
 
 // An answer as one number.
@@ -130,10 +112,9 @@ pub fn code(a: Answer) -> u64
 {
     match a {
         Answer::Value(v) => v as u64,
-        Answer::Signed(z) => unsigned(z) as u64,
+        Answer::Signed(z) => z.cast_unsigned() as u64,
         Answer::Fault(f) => {
-            let s = f.status;
-            KIND_UNIT + (f.domain as u64) * 16 + (values::status_number(s) as u64)
+            KIND_UNIT + (f.domain as u64) * 16 + (values::status_number(f.status) as u64)
         },
         Answer::Refused(n) => 2 * KIND_UNIT + (n as u64),
     }
@@ -143,7 +124,5 @@ pub fn code(a: Answer) -> u64
 pub fn calls_held(calls: &[u32], answers: &[u64]) -> usize
     ensures { result ≡ min (length calls.now / 5) (length answers.now) }
 {
-    let a = calls.len() / 5;
-    let b = answers.len();
-    if a < b { a } else { b }
+    (calls.len() / 5).min(answers.len())
 }

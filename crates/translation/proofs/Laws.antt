@@ -1,4 +1,5 @@
 -- Bounds and cases of alignment, translation and faults.
+use Rattle.std.specs.Prelude.{Ok}
 use Prim.Native.Nat.{ℕ, ◌+◌, ◌-◌, ◌<◌, ◌≤◌, ◌%◌}
 use native.Mathlib.Omega.{arith}
 use mathlib.Core.Bool.{true, false}
@@ -56,7 +57,7 @@ module _ (r : Registers) (memory : Physical) (va : VirtualAddress) where
   unfolding walked_only
   walked_set h = rw h
 
-  pub walked_clear : mmu r ≡ false → walked_only r memory va ≡ Flat
+  pub walked_clear : mmu r ≡ false → walked_only r memory va ≡ (Ok Flat)
   unfolding walked_only
   walked_clear h = rw h
 

@@ -2,4 +2,3 @@ pub mod Alignment
 pub mod Translation
 pub mod Faults
 pub mod Ranges
-pub mod Code

@@ -12,20 +12,17 @@ ghost use Rattle.translation.specs.Translation as spec;
 ghost use Rattle.translation.specs.Faults as faults;
 ghost use Rattle.bus.specs.Physical.{physical};
 ghost use Rattle.translation.specs.Ranges.{Ranged, Is, CheckedIs};
-ghost use Rattle.translation.specs.Code.{mapped_of};
 
 use values::{
-    Access, Answer, Entry, Fault, Kind, PhysicalAddress, Registers, Status, VirtualAddress,
+    Access, Answer, Cause, Entry, Fault, Kind, PhysicalAddress, Registers, Status, VirtualAddress,
 };
-use walk::Mapping;
 
-// How an address is translated: flat, by a TLB entry, by a walk that found a mapping, or by a walk that failed with this status and domain.
+// How an address is translated: flat, by a TLB entry, or by a walk that found a mapping.
 #[derive(Clone, Copy)]
 pub enum Translation {
     Flat,
     Held(Entry),
     Walked(Entry),
-    Failed(Status, u32),
 }
 
 // Where an access whose translation and rights pass goes, and what the page says of it. `page` is false for a section and for flat.
@@ -38,18 +35,12 @@ pub struct Place {
     pub bufferable: bool,
 }
 
-// Whether alignment, translation and rights pass; if not, the fault's status and domain.
-#[derive(Clone, Copy)]
-pub enum Checked {
-    Passed(Place),
-    Denied(Status, u32),
-}
-
-// What is decided of an access before anything changes: which mapping serves, and whether alignment, translation and rights pass.
+// What is decided of an access before anything changes: which mapping serves, and where the access goes if alignment, translation and rights pass, or the
+// cause of its fault.
 #[derive(Clone, Copy)]
 pub struct Decision {
-    pub mapping: Translation,
-    pub checked: Checked,
+    pub mapping: Result<Translation, Cause>,
+    pub checked: Result<Place, Cause>,
 }
 
 // The low bits of an address, for a width of 1, 2 or 4: without a branch.
@@ -74,10 +65,7 @@ pub fn faults_alignment(r: Registers, a: Access) -> bool
     requires { is_width a.width ≡ true }
     ensures { result ≡ aligned.alignment_faults r a }
 {
-    if values::alignment(r) {
-        return is_misaligned(a);
-    }
-    false
+    values::alignment(r) && is_misaligned(a)
 }
 
 // The address with its low bits cleared.
@@ -90,25 +78,27 @@ pub fn cleared(a: Access) -> VirtualAddress
 }
 
 // A walk's result as a translation.
-pub fn of_walk(m: Mapping) -> Translation
+pub fn of_walk(m: Result<Entry, Cause>) -> Result<Translation, Cause>
     requires { ranges.Ranged m }
     ensures { Is result (spec.of_walk m) }
 {
-    match m {
-        Mapping::Found(e) => Translation::Walked(e),
-        Mapping::Failed(s, d) => Translation::Failed(s, d),
-    }
+    Ok(Translation::Walked(m?))
 }
 
 // The plain machine's translation: it walks for every access.
-pub fn walked_only(memory: &[u8], bad: &[u8], r: Registers, va: VirtualAddress) -> Translation
+pub fn walked_only(
+    memory: &[u8],
+    bad: &[u8],
+    r: Registers,
+    va: VirtualAddress,
+) -> Result<Translation, Cause>
     requires { r.base % 0x4000 ≡ 0 }
     ensures { Is result (spec.walked_only r (physical memory.now bad.now) va) }
 {
     if values::mmu(r) {
         of_walk(walk::walk(memory, bad, r.base, va))
     } else {
-        Translation::Flat
+        Ok(Translation::Flat)
     }
 }
 
@@ -141,28 +131,28 @@ fn flat_place(a: Access) -> Place
     }
 }
 
-// What an entry of the rights table makes of an access.
-fn judged(right: u8, e: Entry, va: VirtualAddress) -> Checked
+// What an entry of the rights table makes of an access. The entry is a byte of the table that document 01 names.
+fn judged(right: u8, e: Entry, va: VirtualAddress) -> Result<Place, Cause>
     requires { InRange e }
     ensures { CheckedIs va result (spec.judged right e va) }
 {
     if right == 0 {
-        return Checked::Passed(place_of(e, va));
+        return Ok(place_of(e, va));
     }
     if right == 1 {
         if e.size != 0 {
-            return Checked::Denied(Status::DomainPage, e.domain);
+            return Err(Cause::new(Status::DomainPage, e.domain));
         }
-        return Checked::Denied(Status::DomainSection, e.domain);
+        return Err(Cause::new(Status::DomainSection, e.domain));
     }
     if e.size != 0 {
-        return Checked::Denied(Status::PermissionPage, e.domain);
+        return Err(Cause::new(Status::PermissionPage, e.domain));
     }
-    Checked::Denied(Status::PermissionSection, e.domain)
+    Err(Cause::new(Status::PermissionSection, e.domain))
 }
 
 // Whether a mapping lets an access pass.
-fn check_by(table: &[u8; 256], r: Registers, a: Access, e: Entry) -> Checked
+fn check_by(table: &[u8; 256], r: Registers, a: Access, e: Entry) -> Result<Place, Cause>
     requires { (table.now ≡ rights_table) × InRange e × (is_width a.width ≡ true) }
     ensures { CheckedIs (aligned.cleared a) result (spec.checked_by r a e) }
 {
@@ -181,35 +171,20 @@ fn check_by(table: &[u8; 256], r: Registers, a: Access, e: Entry) -> Checked
     judged(right, e, va)
 }
 
-// What a translation maps an address by: nothing, an entry, or a fault.
-#[derive(Clone, Copy)]
-pub enum Mapped {
-    Flat,
-    By(Entry),
-    Failed(Status, u32),
-}
-
-fn mapped_by(t: Translation) -> Mapped
-    ensures { result ≡ mapped_of t }
-{
-    match t {
-        Translation::Flat => Mapped::Flat,
-        Translation::Held(e) => Mapped::By(e),
-        Translation::Walked(e) => Mapped::By(e),
-        Translation::Failed(s, d) => Mapped::Failed(s, d),
-    }
-}
-
-// Whether a translation lets an access pass.
-pub fn check(table: &[u8; 256], r: Registers, a: Access, t: Translation) -> Checked
+// Whether a translation lets an access pass. Both machines call it at each access: a call costs more than what is in it.
+#[inline(always)]
+pub fn check(
+    table: &[u8; 256],
+    r: Registers,
+    a: Access,
+    t: Result<Translation, Cause>,
+) -> Result<Place, Cause>
     requires { (table.now ≡ rights_table) × Ranged t × (is_width a.width ≡ true) }
     ensures { CheckedIs (aligned.cleared a) result (spec.checked r a t) }
 {
-    let m = mapped_by(t);
-    match m {
-        Mapped::Flat => Checked::Passed(flat_place(a)),
-        Mapped::By(e) => check_by(table, r, a, e),
-        Mapped::Failed(s, d) => Checked::Denied(s, d),
+    match t? {
+        Translation::Flat => Ok(flat_place(a)),
+        Translation::Held(e) | Translation::Walked(e) => check_by(table, r, a, e),
     }
 }
 
@@ -217,29 +192,14 @@ pub fn check(table: &[u8; 256], r: Registers, a: Access, t: Translation) -> Chec
 pub fn fills(r: Registers, p: Place) -> bool
     ensures { result ≡ faults.fills r p }
 {
-    if values::mmu(r) {
-        if values::dcache(r) {
-            return p.cacheable;
-        }
-        return false;
-    }
-    false
+    values::mmu(r) && values::dcache(r) && p.cacheable
 }
 
 // Whether a store that misses is buffered.
 pub fn buffers(r: Registers, p: Place) -> bool
     ensures { result ≡ faults.buffers r p }
 {
-    if values::mmu(r) {
-        if values::write_buffer(r) {
-            if p.cacheable {
-                return true;
-            }
-            return p.bufferable;
-        }
-        return false;
-    }
-    false
+    values::mmu(r) && values::write_buffer(r) && (p.cacheable || p.bufferable)
 }
 
 // The status of a line fill outside memory.

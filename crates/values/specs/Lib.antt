@@ -2,6 +2,7 @@ pub mod Bits
 pub mod Lists
 pub mod Addresses
 pub mod Answers
+pub mod Causes
 pub mod Control
 pub mod Empty
 pub mod Kinds

@@ -4,6 +4,7 @@
 ghost use Rattle.std.specs.Prelude.{◌≡◌, ◌<◌};
 ghost use Rattle.values.specs.Bits.{number};
 ghost use Rattle.values.specs.Answers.{status_of};
+ghost use Rattle.values.specs.Causes.{cause_from};
 ghost use Rattle.values.specs.Control as spec;
 ghost use Rattle.values.specs.Kinds.{is_store, stored_value, is_swap};
 ghost use Rattle.values.specs.Registers.{registers_from, zero_registers, cp15_from, zero_cp15};
@@ -17,22 +18,22 @@ pub struct VirtualAddress(pub u32);
 #[derive(Clone, Copy)]
 pub struct PhysicalAddress(pub u32);
 
-// The status of a fault; `status_of` gives its number. The second of each pair is for pages.
+// The status of a fault, each with its number. The second of each pair is for pages.
 #[derive(Clone, Copy)]
 pub enum Status {
-    Alignment,
-    WalkFirst,
-    WalkSecond,
-    TranslationSection,
-    TranslationPage,
-    DomainSection,
-    DomainPage,
-    PermissionSection,
-    PermissionPage,
-    FillSection,
-    FillPage,
-    OtherSection,
-    OtherPage,
+    Alignment = 1,
+    WalkFirst = 12,
+    WalkSecond = 14,
+    TranslationSection = 5,
+    TranslationPage = 7,
+    DomainSection = 9,
+    DomainPage = 11,
+    PermissionSection = 13,
+    PermissionPage = 15,
+    FillSection = 4,
+    FillPage = 6,
+    OtherSection = 8,
+    OtherPage = 10,
 }
 
 // A fault: its status, its domain, and the virtual address given.
@@ -43,7 +44,7 @@ pub struct Fault {
     pub address: VirtualAddress,
 }
 
-// What a call answers: a value, a signed value, a fault, or the number of its refusal.
+// What a call answers: a value, a signed value, a fault, or the number of its refusal. Refused holds a number: document 01 names this form, and C reads it.
 #[derive(Clone, Copy)]
 pub enum Answer {
     Value(u32),
@@ -122,7 +123,8 @@ pub enum Call {
     Write(Transfer, u32),
 }
 
-// A TLB entry: size 0 section, 1 large page, 2 small page; AP0 to AP3 in `aps`, two bits each, AP0 lowest.
+// A TLB entry: size 0 section, 1 large page, 2 small page; AP0 to AP3 in `aps`, two bits each, AP0 lowest. The size is a number: a word of an unsound
+// state may hold a size above 2, which refusal 3 tests and a text stores.
 #[derive(Clone, Copy)]
 pub struct Entry {
     pub valid: bool,
@@ -153,51 +155,41 @@ pub struct Slot {
     pub bytes: [u8; 16],
 }
 
-// Where a search found its match, or that it found none.
+// Why an access is not made: the status and the domain of its fault. The fault has the access's address too.
 #[derive(Clone, Copy)]
-pub enum Search {
-    At(usize),
-    Nothing,
+pub struct Cause {
+    pub status: Status,
+    pub domain: u32,
+}
+
+impl Cause {
+    // The cause of a status and a domain.
+    pub fn new(status: Status, domain: u32) -> Cause
+        ensures { result ≡ cause_from status domain }
+    {
+        Cause { status, domain }
+    }
 }
 
 // A bit as a number.
 pub fn bit_number(b: bool) -> u32
     ensures { (result ≡ number b) × (result < 2) }
 {
-    if b { 1 } else { 0 }
+    b as u32
 }
 
 // The number of a status.
 pub fn status_number(s: Status) -> u32
     ensures { (result ≡ status_of s) × (result < 16) }
 {
-    match s {
-        Status::Alignment => 1,
-        Status::WalkFirst => 12,
-        Status::WalkSecond => 14,
-        Status::TranslationSection => 5,
-        Status::TranslationPage => 7,
-        Status::DomainSection => 9,
-        Status::DomainPage => 11,
-        Status::PermissionSection => 13,
-        Status::PermissionPage => 15,
-        Status::FillSection => 4,
-        Status::FillPage => 6,
-        Status::OtherSection => 8,
-        Status::OtherPage => 10,
-    }
+    s as u32
 }
 
 // Whether an access stores.
 pub fn is_store(k: Kind) -> bool
     ensures { result ≡ is_store k }
 {
-    match k {
-        Kind::Load => false,
-        Kind::SignedLoad => false,
-        Kind::Store(v) => true,
-        Kind::Swap(v) => true,
-    }
+    matches!(k, Kind::Store(_) | Kind::Swap(_))
 }
 
 // The value that an access stores, 0 where it stores none.
@@ -205,10 +197,8 @@ pub fn stored_value(k: Kind) -> u32
     ensures { result ≡ stored_value k }
 {
     match k {
-        Kind::Load => 0,
-        Kind::SignedLoad => 0,
-        Kind::Store(v) => v,
-        Kind::Swap(v) => v,
+        Kind::Load | Kind::SignedLoad => 0,
+        Kind::Store(v) | Kind::Swap(v) => v,
     }
 }
 
@@ -216,12 +206,7 @@ pub fn stored_value(k: Kind) -> u32
 pub fn is_swap(k: Kind) -> bool
     ensures { result ≡ is_swap k }
 {
-    match k {
-        Kind::Load => false,
-        Kind::SignedLoad => false,
-        Kind::Store(v) => false,
-        Kind::Swap(v) => true,
-    }
+    matches!(k, Kind::Swap(_))
 }
 
 // Registers of zeros.

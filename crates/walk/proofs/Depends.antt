@@ -1,4 +1,5 @@
 -- A walk depends on which words abort and on the words that it reads alone.
+use Rattle.std.specs.Prelude.{Option, Some, None}
 use Prim.Native.Nat.{ℕ, ◌*◌, ◌%◌}
 use mathlib.Core.Bool.{Bool, true, false}
 use mathlib.Core.Path.{◌≡◌, refl, sym, ◌∙◌, ap, subst}
@@ -11,8 +12,6 @@ use Rattle.values.specs.declared.VirtualAddress.{VirtualAddress}
 use Rattle.values.specs.declared.PhysicalAddress.{PhysicalAddress}
 use Rattle.values.proofs.Cases.{case, or_left, or_right}
 use Rattle.words.specs.Words.{value_at}
-use Rattle.bus.specs.declared.Descriptor.{Descriptor}
-use Rattle.bus.specs.declared.Descriptor.TheVariants.{Word, Outside}
 use Rattle.bus.specs.Physical.{Physical, aborts}
 use Rattle.bus.specs.Reader.{descriptor_at}
 use Rattle.walk.specs.Walk.{first_address, second_address, domain_of, first, second, walk}
@@ -42,19 +41,19 @@ module _ (m l : Physical) (same_aborts : (pa : PhysicalAddress) → aborts m pa 
       (λ t. descriptor_out m pa t ∙ sym (descriptor_out l pa (sym (same_aborts pa) ∙ t)))
       (λ t.
       let e = descriptor_in m pa t in
-      let b : Agree m l (word_of pa ∷ []) = subst (λ (d : Descriptor). Agree m l (read_at pa d)) e a in
+      let b : Agree m l (word_of pa ∷ []) = subst (λ (d : Option ℕ). Agree m l (read_at pa d)) e a in
       let v = b (word_of pa) (or_left (eqb (word_of pa) (word_of pa)) false (eq-eqb (word_of pa) (word_of pa) refl)) in
-      e ∙ ap Word v ∙ sym (descriptor_in l pa (sym (same_aborts pa) ∙ t)))
+      e ∙ ap Some v ∙ sym (descriptor_in l pa (sym (same_aborts pa) ∙ t)))
 
-  first_same : (va : VirtualAddress) (d : Descriptor) → Agree m l (second_reads m va d) → first m va d ≡ first l va d
+  first_same : (va : VirtualAddress) (d : Option ℕ) → Agree m l (second_reads m va d) → first m va d ≡ first l va d
   unfolding first second_reads
-  first_same va Outside a = refl
-  first_same va (Word w) a =
+  first_same va None a = refl
+  first_same va (Some w) a =
       case (eqb (w % 4) 1)
       (λ t.
       let b : Agree m l (read_at (second_address w va) (descriptor_at m (second_address w va))) = rw t at a in
       let e = descriptor_same (second_address w va) b in
-      rw t (ap (λ (d : Descriptor). second (domain_of w) va d) e))
+      rw t (ap (λ (d : Option ℕ). second (domain_of w) va d) e))
       (λ t. rw t)
 
   pub walk_same : (base : ℕ) (va : VirtualAddress) → Agree m l (words_read m base va) → walk m base va ≡ walk l base va

@@ -1,8 +1,7 @@
 -- The ranges of what a walk finds, which a sound TLB has too. The code asks them of an entry.
-use Rattle.std.specs.Prelude.{◌<◌, ◌%◌, ◌≡◌}
+use Rattle.std.specs.Prelude.{◌<◌, ◌%◌, ◌≡◌, Result, Ok, Err}
 use Rattle.values.specs.declared.Entry.{Entry}
-use Rattle.walk.specs.declared.Mapping.{Mapping}
-use Rattle.walk.specs.declared.Mapping.TheVariants.{Found, Failed}
+use Rattle.values.specs.declared.Cause.{Cause}
 
 -- the ranges of an entry
 pub record InRange (e : Entry) : Type 0 where
@@ -17,11 +16,11 @@ pub record InRange (e : Entry) : Type 0 where
   pub large : e.size ≡ 1 → e.pbase % 0x10000 ≡ 0
 
 -- what a walk finds: a mapping in range, or a fault with a domain in range
-abbrev pub Ranged : Mapping → Type 0
-Ranged (Found e) = InRange e
-Ranged (Failed s d) = d < 16
+abbrev pub Ranged : Result Entry Cause → Type 0
+Ranged (Ok e) = InRange e
+Ranged (Err why) = why.domain < 16
 
 -- a mapping is this one, and in range
-pub record Is (r m : Mapping) : Type 0 where
+pub record Is (r m : Result Entry Cause) : Type 0 where
   pub same : r ≡ m
   pub ranged : Ranged r

@@ -1,5 +1,5 @@
 -- "Translation, with M set (001, figures 2-1, 2-2)": "the walk reads memory only, never cache or buffer".
-use Rattle.std.specs.Prelude.{ℕ, ◌+◌, ◌*◌, ◌/◌, ◌%◌, true, cond, eqb}
+use Rattle.std.specs.Prelude.{ℕ, ◌+◌, ◌*◌, ◌/◌, ◌%◌, true, cond, eqb, Option, Some, None, Result, Ok, Err}
 use Rattle.values.specs.Bits.{bit}
 use Rattle.values.specs.declared.VirtualAddress.{VirtualAddress}
 use Rattle.values.specs.declared.PhysicalAddress.{PhysicalAddress}
@@ -7,10 +7,8 @@ use Rattle.values.specs.declared.Entry.{Entry}
 use Rattle.values.specs.declared.Status.TheVariants.{WalkFirst, WalkSecond, TranslationSection, TranslationPage}
 use Rattle.bus.specs.Physical.{Physical}
 use Rattle.bus.specs.Reader.{descriptor_at}
-use Rattle.bus.specs.declared.Descriptor.{Descriptor}
-use Rattle.bus.specs.declared.Descriptor.TheVariants.{Word, Outside}
-use Rattle.walk.specs.declared.Mapping.{Mapping}
-use Rattle.walk.specs.declared.Mapping.TheVariants.{Found, Failed}
+use Rattle.values.specs.declared.Cause.{Cause}
+use Rattle.values.specs.Causes.{cause_from}
 
 -- "Level 1 word: table base plus four times VA[31:20]."
 abbrev pub first_address : ℕ → VirtualAddress → PhysicalAddress
@@ -67,21 +65,21 @@ small_entry domain w va =
     }
 
 -- the level 2 word: 01 large page, 10 small page, "00 and 11 fault"; "walk outside memory ... 14 (level 2); translation ... 7"
-unfoldable pub second : ℕ → VirtualAddress → Descriptor → Mapping
-second domain va Outside = Failed WalkSecond domain
-second domain va (Word w) =
-    cond (eqb (w % 4) 1) (Found (large_entry domain w va))
-    (cond (eqb (w % 4) 2) (Found (small_entry domain w va))
-    (Failed TranslationPage domain))
+unfoldable pub second : ℕ → VirtualAddress → Option ℕ → Result Entry Cause
+second domain va None = Err (cause_from WalkSecond domain)
+second domain va (Some w) =
+    cond (eqb (w % 4) 1) (Ok (large_entry domain w va))
+    (cond (eqb (w % 4) 2) (Ok (small_entry domain w va))
+    (Err (cause_from TranslationPage domain)))
 
 -- the level 1 word: 01 second-level table, 10 section, "00 and 11 translation fault"; "Domain is 0 for 1, 12, 5"
-unfoldable pub first : Physical → VirtualAddress → Descriptor → Mapping
-first memory va Outside = Failed WalkFirst 0
-first memory va (Word w) =
+unfoldable pub first : Physical → VirtualAddress → Option ℕ → Result Entry Cause
+first memory va None = Err (cause_from WalkFirst 0)
+first memory va (Some w) =
     cond (eqb (w % 4) 1) (second (domain_of w) va (descriptor_at memory (second_address w va)))
-    (cond (eqb (w % 4) 2) (Found (section_entry w va))
-    (Failed TranslationSection 0))
+    (cond (eqb (w % 4) 2) (Ok (section_entry w va))
+    (Err (cause_from TranslationSection 0)))
 
 -- the walk of memory for a virtual address, by the table base
-unfoldable pub walk : Physical → ℕ → VirtualAddress → Mapping
+unfoldable pub walk : Physical → ℕ → VirtualAddress → Result Entry Cause
 walk memory base va = first memory va (descriptor_at memory (first_address base va))

@@ -8,43 +8,6 @@ use lib.ListN.{length, get_or, set, length-set}
 use lib.Seq.{get_or-set_same, get_or-set_other}
 use Rattle.words.specs.Words.{value_at, stored}
 
-module _ (m : List ℕ) (a : ℕ) where
-  -- the bytes of a number of each width
-  pub one : value_at 1 m a ≡ get_or m a 0
-  unfolding value_at
-  one = omega arith
-
-  pub two : value_at 2 m a ≡ get_or m a 0 + get_or m (a + 1) 0 * 256
-  unfolding value_at
-  two = omega arith
-
-  pub four : value_at 4 m a ≡ get_or m a 0 + get_or m (a + 1) 0 * 256 + get_or m (a + 2) 0 * 0x10000 + get_or m (a + 3) 0 * 0x1000000
-  unfolding value_at
-  four =
-      let e : a + 1 + 1 ≡ a + 2 = omega arith in
-      let f : a + 2 + 1 ≡ a + 3 = omega arith in
-      rw (e, f) (omega arith)
-
-  module _ (v : ℕ) where
-    -- the bytes that a store of each width sets
-    pub store_one : stored 1 m a v ≡ set m a (v % 256)
-    unfolding stored
-    store_one = refl
-
-    pub store_two : stored 2 m a v ≡ set (set m a (v % 256)) (a + 1) (v / 256 % 256)
-    unfolding stored
-    store_two = refl
-
-    pub store_four : stored 4 m a v
-        ≡ set (set (set (set m a (v % 256)) (a + 1) (v / 256 % 256)) (a + 2) (v / 0x10000 % 0x100)) (a + 3) (v / 0x1000000 % 0x100)
-    unfolding stored
-    store_four =
-        let e : a + 1 + 1 ≡ a + 2 = omega arith in
-        let f : a + 2 + 1 ≡ a + 3 = omega arith in
-        let g : v / 256 / 256 ≡ v / 0x10000 = omega arith in
-        let h : v / 0x10000 / 256 ≡ v / 0x1000000 = omega arith in
-        rw (e, f, g, h)
-
 pub length_stored : (n : ℕ) (m : List ℕ) (a v : ℕ) → length (stored n m a v) ≡ length m
 unfolding stored
 length_stored zero m a v = refl

@@ -1,22 +1,23 @@
--- The signed meaning of a number, once over the sign bit's value.
-use Prim.Native.Nat.{ℕ, suc, ◌+◌, ◌-◌, ◌^◌, ◌<◌, ◌≤◌}
+-- The signed meaning of a number, once over the width.
+use Prim.Native.Nat.{ℕ, suc, ◌+◌, ◌-◌, ◌^◌, ◌<◌}
 use native.Mathlib.Omega.{arith}
-use mathlib.Core.Path.{◌≡◌}
-use mir.Syntax.{w32}
-use mir.Val.{to_z}
+use mathlib.Core.Path.{◌≡◌, ◌∙◌, ap}
+use lib.Dec.{ltb}
+use mir.Syntax.{Width}
+use mir.Val.{bits, hbits, to_z}
 use mir.Facts.{to_z_pos, to_z-neg}
-use borrow.Author.Tests.{lt-ltb, le-ltb}
+use borrow.Author.Tests.{ltb-true, ltb-false}
+use Rattle.values.proofs.Cases.{case}
 use Rattle.words.specs.Signed.{signed_by}
 
-module _ (half x : ℕ) (small : half ≤ 2 ^ 31) where
-  -- below the sign bit the number is itself
-  pub positive : x < half → to_z w32 x ≡ signed_by half x
-  unfolding signed_by
-  positive h = rw (lt-ltb x half h) (to_z_pos w32 (omega arith))
-
-  -- from the sign bit on it is the complement of what is left up to the largest number
-  pub negative : half ≤ x → x < half + half → to_z w32 (0xFFFFFFFF - (half + half - 1 - x)) ≡ signed_by half x
-  unfolding signed_by
-  negative h l =
-      let e : 0xFFFFFFFF - (half + half - 1 - x) ≡ 2 ^ 32 - suc (half + half - 1 - x) = omega arith in
-      rw (le-ltb x half h, e) (to_z-neg w32 (half + half - 1 - x) (omega arith))
+-- a number is read as signed by its sign bit's value
+pub signed_cast : (w : Width) (half x : ℕ) → half ≡ 2 ^ hbits w → half + half ≡ 2 ^ bits w → x < half + half → to_z w x ≡ signed_by half x
+unfolding signed_by
+signed_cast w half x e f h =
+    case (ltb x half)
+    (λ t. rw t (to_z_pos w (let l = ltb-true x half t in omega (arith, e))))
+    (λ t.
+    let l = ltb-false x half t in
+    let k = half + half - 1 - x in
+    let g : x ≡ 2 ^ bits w - suc k = omega (arith, f) in
+    rw t (ap (to_z w) g ∙ to_z-neg w k (omega (arith, e))))

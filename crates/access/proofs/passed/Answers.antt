@@ -1,6 +1,6 @@
 use Rattle.access.proofs.ByKind.{loads_by, stores_by}
 use Rattle.swaps.specs.Code.{store_or_swap}
-use Rattle.machine.specs.Lists.{lists, machine_of}
+use Rattle.machine.specs.Lists.{lists_of, machine_of}
 use Prim.Native.Nat.{ℕ}
 use mathlib.Core.Path.{refl, sym, ◌∙◌, ap}
 use Rattle.access.proofs.passed.Goals as goal
@@ -8,21 +8,25 @@ use Rattle.access.proofs.passed.Goals as goal
 pub returns-then-is_store : goal.returns-then-is_store
 returns-then-is_store c =
     let a = c.args in
-    let l = lists a.memory.now a.bad.now a.words.now a.bytes.now a.lines.now a.pointers.now a.store.now in
-    let k = c.store_or_swap.ensures a.pointers.now in
-    record {
-      same = λ es n. let m = machine_of l es a.s n in k.same es n
-          ∙ ap (λ (v : ℕ). store_or_swap m a.a v a.p) c.stored_value.ensures
-          ∙ sym (stores_by m a.a a.p a.a.kind refl (sym c.is_store.ensures ∙ c.if-is_store.true));
-      bytes_long = k.bytes_long;
-    }
+    let l = lists_of a.side.now in
+    let k = c.store_or_swap.ensures.0 in (
+      record {
+        same = λ es n. let m = machine_of l es a.s n in k.same es n
+            ∙ ap (λ (v : ℕ). store_or_swap m a.a v a.p) c.stored_value.ensures
+            ∙ sym (stores_by m a.a a.p a.a.kind refl (sym c.is_store.ensures ∙ c.if-is_store.true));
+        bytes_long = k.bytes_long;
+      },
+      c.store_or_swap.ensures.1,
+    )
 
 pub returns : goal.returns
 returns c =
     let a = c.args in
-    let l = lists a.memory.now a.bad.now a.words.now a.bytes.now a.lines.now a.pointers.now a.store.now in
-    record {
-      same = λ es n. c.load.ensures.same es n
-          ∙ sym (loads_by (machine_of l es a.s n) a.a a.p a.a.kind (sym c.is_store.ensures ∙ c.if-is_store.false));
-      bytes_long = c.load.ensures.bytes_long;
-    }
+    let l = lists_of a.side.now in (
+      record {
+        same = λ es n. c.load.ensures.0.same es n
+            ∙ sym (loads_by (machine_of l es a.s n) a.a a.p a.a.kind (sym c.is_store.ensures ∙ c.if-is_store.false));
+        bytes_long = c.load.ensures.0.bytes_long;
+      },
+      c.load.ensures.1,
+    )

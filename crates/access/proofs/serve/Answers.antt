@@ -1,7 +1,8 @@
 use Rattle.access.proofs.Laws.{decision_is, access_passed, access_denied}
 use Rattle.reach.proofs.Laws.{ready_kept}
-use Rattle.machine.specs.Lists.{lists, machine_of}
-use mathlib.Core.Path.{sym, ◌∙◌}
+use Rattle.machine.proofs.Kept.{kept}
+use Rattle.machine.specs.Lists.{lists_of, machine_of}
+use mathlib.Core.Path.{refl, sym, ◌∙◌}
 use Rattle.access.proofs.serve.Goals as goal
 
 pub commit-left-requires : goal.commit-left-requires
@@ -11,36 +12,38 @@ commit-left-requires c =
 pub passed-requires : goal.passed-requires
 passed-requires c =
     let a = c.args in (
-      ready_kept _ a.s (lists a.memory.now a.bad.now a.words.now a.bytes.now a.lines.now a.pointers.now a.store.now)
+      ready_kept _ a.s (lists_of a.side.now)
           c.commit-left.ensures.1 c.requires.2,
       c.requires.3,
-      rw c.in-Passed.is at c.decide-d.ensures.checked_ranged,
+      rw c.in-Ok.is at c.decide-d.ensures.checked_ranged,
     )
 
 pub faulted-requires : goal.faulted-requires
 faulted-requires c =
-    rw c.in-Denied.is at c.decide-d.ensures.checked_ranged
+    rw c.in-Err.is at c.decide-d.ensures.checked_ranged
 
-pub returns-in-Passed : goal.returns-in-Passed
-returns-in-Passed c =
+pub returns-in-Ok : goal.returns-in-Ok
+returns-in-Ok c =
     let a = c.args in
-    let l = (lists a.memory.now a.bad.now a.words.now a.bytes.now a.lines.now a.pointers.now a.store.now) in
+    let l = lists_of a.side.now in
     let es = c.commit-left.new.entries in (
-      (λ n. c.passed.ensures.same es n ∙ sym
+      (λ n. c.passed.ensures.0.same es n ∙ sym
           (access_passed (machine_of l a.entries.now a.s n) (machine_of l es c.commit-left.result n) a.a c.decide-d.result
           (decision_is l a.entries.now a.s n a.a _ c.decide-d.ensures.same) (c.commit-left.ensures.0 l n) _
-          c.in-Passed.is)),
-      c.passed.ensures.bytes_long,
+          c.in-Ok.is)),
+      c.passed.ensures.0.bytes_long,
+      c.passed.ensures.1,
     )
 
-pub returns-in-Denied : goal.returns-in-Denied
-returns-in-Denied c =
+pub returns-in-Err : goal.returns-in-Err
+returns-in-Err c =
     let a = c.args in
-    let l = (lists a.memory.now a.bad.now a.words.now a.bytes.now a.lines.now a.pointers.now a.store.now) in
+    let l = lists_of a.side.now in
     let es = c.commit-left.new.entries in (
       (λ n. c.faulted.ensures l es n ∙ sym
           (access_denied (machine_of l a.entries.now a.s n) (machine_of l es c.commit-left.result n) a.a c.decide-d.result
           (decision_is l a.entries.now a.s n a.a _ c.decide-d.ensures.same) (c.commit-left.ensures.0 l n) _ _
-          c.in-Denied.is)),
+          c.in-Err.is)),
       c.requires.2.fits.bytes_long,
+      kept refl refl refl,
     )

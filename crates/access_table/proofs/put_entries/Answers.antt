@@ -1,4 +1,4 @@
-use native.Mathlib.Omega.{arith}
+use Rattle.std.proofs.Common.{arith}
 use Rattle.access_table.proofs.Listing.{listing_start, listing_on, listing_end}
 use Rattle.access_table.proofs.put_entries.Goals as goal
 
@@ -17,9 +17,6 @@ loop-i-preserved c = let a = c.args in
     let l = c.loop-i in
     listing_on a.out.now a.table.now l.out l.at l.i l.invariant _ _ (omega (arith, c.requires.0, c.requires.1)) c.loop-i-test.true
     c.put_entry-at.ensures
-
-pub shape_of-out : goal.shape_of-out
-shape_of-out c = c.loop-i.invariant.laying.long
 
 pub returns : goal.returns
 returns c = let a = c.args in

@@ -1,16 +1,15 @@
-use borrow.Author.Rules.{rules}
+use mathlib.Core.Path.{ap}
+use Rattle.fields.specs.Parse.{verdict_number}
+use Rattle.fields.specs.declared.Verdict.TheVariants.{Departs}
+use Rattle.fields.proofs.Verdicts.{same_verdict}
 use Rattle.batch.proofs.Printing.{departed_line, departed_none}
-use borrow.Author.Rules.{rules}
 use Rattle.batch.proofs.put_departed.Goals as goal
 
-pub put_line-requires : goal.put_line-requires
-put_line-requires c = let room = c.requires.1 c.if-verdict-eq-DEPARTS.true in
-    (c.requires.0, search rules, room)
+pub returns-in-Departs : goal.returns-in-Departs
+returns-in-Departs c = let a = c.args in
+    departed_line a.out.now _ a.at _ a.line _ (ap verdict_number c.in-Departs.is)
+    (rw (c.code-code.ensures, c.from.ensures) at c.put_line.ensures)
 
-pub returns-then-verdict-eq-DEPARTS : goal.returns-then-verdict-eq-DEPARTS
-returns-then-verdict-eq-DEPARTS c = let a = c.args in
-    departed_line a.out.now _ a.at _ a.line a.verdict c.if-verdict-eq-DEPARTS.true c.put_line.ensures
-
-pub returns : goal.returns
-returns c = let a = c.args in
-    departed_none a.out.now a.at a.line a.verdict c.if-verdict-eq-DEPARTS.false
+pub returns-in_default : goal.returns-in_default
+returns-in_default c = let a = c.args in
+    departed_none a.out.now a.at a.line _ (λ e. c.in_default.not-Departs (same_verdict a.verdict Departs e))

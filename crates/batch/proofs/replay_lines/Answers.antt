@@ -1,24 +1,10 @@
 use native.Mathlib.Omega.{arith}
-use borrow.Author.Rules.{rules}
-use mathlib.Core.Path.{◌≡◌, sym}
+use mathlib.Core.Path.{◌≡◌}
 use lib.ListN.{length, replicate}
 use Rattle.sa110.specs.State.{machine_in, ran_of}
 use Rattle.answers.proofs.States.{formed_typed}
 use Rattle.batch.proofs.Printing.{calls_made_lem, departed_room, ran_machine, ran_told, codes_low, batch_laid}
-use lib.Seq.{length-take-le}
-use borrow.Author.Rules.{rules}
 use Rattle.batch.proofs.replay_lines.Goals as goal
-
-pub slice_bounds-run-end : goal.slice_bounds-run-end
-slice_bounds-run-end c = let p = c.parse-p in
-    let long : length p.new.calls ≡ 5120 = p.auto.calls in
-    let few = p.ensures.2 in
-    let small = c.requires.0 in
-    sym (length-take-le _ _ (omega arith))
-
-pub overflow_add-lines : goal.overflow_add-lines
-overflow_add-lines c = let small = c.requires.2 in
-    search (rules, small)
 
 pub print-written-requires : goal.print-written-requires
 print-written-requires c = let a = c.args in
@@ -40,16 +26,6 @@ print-written-requires c = let a = c.args in
     let room : length ran.new.answers ≡ 1024 = ran.auto.answers in
     let made = calls_made_lem m a.ends a.n a.text.now p.new.calls p.result p.ensures.0 in
     (omega arith, omega arith, omega arith, omega arith, λ k h. codes_low _ _ _ t k (omega arith))
-
-pub overflow_add-lines-2 : goal.overflow_add-lines-2
-overflow_add-lines-2 c = let small = c.requires.2 in
-    search (rules, small)
-
-pub overflow_add-lines-3 : goal.overflow_add-lines-3
-overflow_add-lines-3 c = let small = c.requires.2 in
-    let few = c.parse-p.ensures.2 in
-    let most = c.requires.0 in
-    search (rules, small, few, most)
 
 pub put_departed-requires : goal.put_departed-requires
 put_departed-requires c = let a = c.args in

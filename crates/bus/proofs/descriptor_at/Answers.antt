@@ -1,5 +1,5 @@
+use Rattle.std.specs.Prelude.{Some}
 use mathlib.Core.Path.{sym, ◌∙◌, ap}
-use Rattle.bus.specs.declared.Descriptor.TheVariants.{Word}
 use Rattle.bus.proofs.Laws.{answers, descriptor_in, descriptor_out}
 use Rattle.bus.proofs.descriptor_at.Goals as goal
 
@@ -21,5 +21,5 @@ returns-else-aborts c =
     let else1 = c.before.before in
     let after-aborts = else1.before in
     let start = after-aborts.before.before.before in
-    ap Word c.word.ensures.value
+    ap Some c.word.ensures.value
     ∙ sym (descriptor_in _ start.args.at (sym after-aborts.aborts.ensures ∙ else1.if-aborts.false))

@@ -1,11 +1,5 @@
 use Rattle.cache.proofs.Sending.{clean_left}
-use Rattle.cache.proofs.Lines.{held_sends}
-use native.Mathlib.Omega.{arith}
 use Rattle.cleans.proofs.clean_line.Goals as goal
-
-pub send_halves-n-requires : goal.send_halves-n-requires
-send_halves-n-requires c = let k = c.requires.1 in
-    (c.requires.0, rw c.line_of-l.ensures (held_sends _ c.args.memory.now k.inside), omega (arith, k.low, k.store_long))
 
 pub returns : goal.returns
 returns c = let a = c.args in

@@ -1,14 +1,8 @@
 use Rattle.cache.proofs.Sending.{way_left}
 use mathlib.Core.Path.{refl}
-use native.Mathlib.Omega.{arith}
 use Prim.Native.Nat.{◌+◌, ◌*◌, ◌/◌, ◌%◌}
 use lib.ListN.{get_or}
 use Rattle.fills.proofs.give_way.Goals as goal
-
-pub send_out-n-requires : goal.send_out-n-requires
-send_out-n-requires c =
-    let k = c.requires.1 in
-    (c.requires.0, rw c.line_of-l.ensures k.victim_sends, omega (arith, k.pointer, k.store_long))
 
 pub returns : goal.returns
 returns c =

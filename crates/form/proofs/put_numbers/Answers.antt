@@ -1,22 +1,12 @@
-use borrow.Author.Rules.{rules}
 use native.Mathlib.Omega.{arith}
-use Rattle.form.specs.Code.{places_of}
-use Rattle.form.proofs.Putting.{putting_start, putting_room, putting_byte, putting_on, putting_end}
+use Rattle.form.proofs.Putting.{putting_room, putting_byte, putting_on, putting_end}
 use Rattle.form.proofs.put_numbers.Goals as goal
-
-pub loop-k-init : goal.loop-k-init
-loop-k-init c = let a = c.args in
-    putting_start (places_of a.separators.now) a.numbers.now a.out.now
-
-pub overflow_cast-numbers : goal.overflow_cast-numbers
-overflow_cast-numbers c = let known = c.shared_slice_known-in-loop-k-1.given c.loop-k.k in search (rules, known)
 
 pub put_number-end-requires : goal.put_number-end-requires
 put_number-end-requires c = let l = c.loop-k in
     let a = c.args in
-    let small = c.shared_slice_known-in-loop-k-1.given l.k in
-    let room = putting_room a.separators.now a.numbers.now a.out.now l.out l.at l.k l.invariant c.requires.1
-    c.loop-k-test.true in
+    let small = c.type_inv.numbers l.k in
+    let room = putting_room a.separators.now a.numbers.now a.out.now l.out l.at l.k l.invariant c.requires.1 c.loop-k-test.true in
     (omega (arith, small), omega (arith, room))
 
 pub put_byte-at-requires : goal.put_byte-at-requires
@@ -31,9 +21,6 @@ loop-k-preserved c = let l = c.loop-k in
     let m = c.put_number-end in
     let b = c.put_byte-at in
     putting_on a.separators.now a.numbers.now a.out.now l.out l.at l.k l.invariant c.requires.1 c.loop-k-test.true m.new.out m.result m.ensures c.requires.0 b.new.out b.result b.ensures
-
-pub shape_of-out : goal.shape_of-out
-shape_of-out c = c.loop-k.invariant.laying.long
 
 pub returns : goal.returns
 returns c = let l = c.loop-k in

@@ -1,11 +1,6 @@
-use Prim.Native.Nat.{◌-◌}
-use lib.ListN.{length}
 use Rattle.form.specs.Code.{places_of}
 use Rattle.form.proofs.Reading.{Reading}
 use Rattle.form.proofs.read_numbers.Given as goal
 
 abbrev pub invariant-loop-k : goal.invariant-loop-k
 invariant-loop-k l = Reading (places_of l.separators) l.text l.initial.numbers l.numbers l.at l.k
-
-abbrev pub decreases-loop-k : goal.decreases-loop-k
-decreases-loop-k l = length l.separators - l.k

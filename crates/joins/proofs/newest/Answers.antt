@@ -1,4 +1,4 @@
-use Rattle.values.specs.declared.Search.TheVariants.{Nothing}
+use Rattle.std.specs.Prelude.{None}
 use Rattle.buffer.specs.Buffer.{newest_of}
 use Rattle.buffer.specs.Packing.{slots_of}
 use Rattle.buffer.proofs.NewestOf.{newest_hit, newest_on, newest_none}
@@ -11,7 +11,7 @@ use Rattle.joins.proofs.newest.Goals as goal
 
 -- where no place has the block, no entry has it
 absent : (ws : List ℕ) (bs : List (List ℕ)) → length ws ≡ length bs → (block : ℕ)
-    → ((i : ℕ) → i < 8 → get_or ws i 0 / 0x100000000 ≡ block → ⊥) → (n : ℕ) → n ≤ 8 → newest_of (slots_of ws bs) block n ≡ Nothing
+    → ((i : ℕ) → i < 8 → get_or ws i 0 / 0x100000000 ≡ block → ⊥) → (n : ℕ) → n ≤ 8 → newest_of (slots_of ws bs) block n ≡ None
 absent ws bs long block none zero h = newest_none (slots_of ws bs) block 0 refl
 absent ws bs long block none (suc n) h =
     let e : suc n - 1 ≡ n = omega arith in

@@ -13,10 +13,10 @@ loop-n-preserved c = let a = c.args in
     let l = c.loop-n in
     (omega arith, λ bytes h. sym (newest_on a.words.now bytes (omega arith) a.block l.n (omega arith) c.if-words-n.false) ∙ l.invariant.1 bytes h)
 
-pub returns-then-n-eq0 : goal.returns-then-n-eq0
-returns-then-n-eq0 c = let a = c.args in
+pub returns : goal.returns
+returns c = let a = c.args in
     let l = c.loop-n in
-    λ bytes h. sym (newest_none (slots_of a.words.now bytes) a.block l.n c.if-n-eq0.true) ∙ l.invariant.1 bytes h
+    λ bytes h. sym (newest_none (slots_of a.words.now bytes) a.block l.n (omega arith)) ∙ l.invariant.1 bytes h
 
 pub returns-then-words-n : goal.returns-then-words-n
 returns-then-words-n c = let a = c.args in

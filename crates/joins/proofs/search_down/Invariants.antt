@@ -9,6 +9,3 @@ use Rattle.joins.proofs.search_down.Given as goal
 abbrev pub invariant-loop-n : goal.invariant-loop-n
 invariant-loop-n l = (l.n ≤ l.used) × ((bytes : List (List ℕ)) → length bytes ≡ 8 →
     newest_of (slots_of l.words bytes) l.block l.n ≡ newest_of (slots_of l.words bytes) l.block l.used)
-
-abbrev pub decreases-loop-n : goal.decreases-loop-n
-decreases-loop-n l = l.n

@@ -1,5 +1,6 @@
 use Rattle.loads.proofs.Laws.{uncached_left}
-use Rattle.machine.specs.Lists.{lists}
+use Rattle.machine.proofs.Kept.{kept}
+use Rattle.machine.specs.Lists.{lists_of}
 use Rattle.reach.proofs.Bounds.{in_block, lies_inside}
 use mathlib.Core.Path.{refl}
 use native.Mathlib.Omega.{arith}
@@ -12,8 +13,8 @@ ready_access-used-requires c =
 pub load-v-requires : goal.load-v-requires
 load-v-requires c =
     let a = c.args in
-    let h = lies_inside a.memory.now a.words.now a.bytes.now a.s.used a.a a.p c.requires.0 a.bad.now c.requires.1 in
-    (c.requires.0.width, omega (arith, h, c.memory-1.given))
+    let h = lies_inside a.side.now.memory.now a.side.now.words.now a.side.now.bytes.now a.s.used a.a a.p c.requires.0 a.side.now.bad.now c.requires.1 in
+    (c.requires.0.width, omega (arith, h, c.ready_access-used.auto.memory))
 
 pub load_answer-requires : goal.load_answer-requires
 load_answer-requires c =
@@ -21,10 +22,12 @@ load_answer-requires c =
 
 pub returns : goal.returns
 returns c =
-    let a = c.args in
-    λ ls ps st. record {
-      same = λ es n. uncached_left es a.s n a.a (lists a.memory.now a.bad.now a.words.now a.bytes.now ls ps st) _ a.p _ _ _ _
-          c.ready_access-used.ensures refl refl refl refl c.load-v.ensures.value c.with_used.ensures
-          c.load_answer.ensures;
-      bytes_long = c.ready_access-used.ensures.fits.bytes_long;
-    }
+    let a = c.args in (
+      record {
+        same = λ es n. uncached_left es a.s n a.a (lists_of a.side.now) _ a.p _ _ _ _
+            c.ready_access-used.ensures refl refl refl refl c.load-v.ensures.value c.with_used.ensures
+            c.load_answer.ensures;
+        bytes_long = c.ready_access-used.ensures.fits.bytes_long;
+      },
+      kept refl c.ready_access-used.auto.memory c.ready_access-used.auto.words,
+    )

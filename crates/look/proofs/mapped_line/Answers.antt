@@ -1,7 +1,7 @@
 use Rattle.look.proofs.mapped_line.Goals as goal
 
 pub translated-requires : goal.translated-requires
-translated-requires c = rw c.in-Found.is at c.requires
+translated-requires c = rw c.in-Ok.is at c.requires
 
-pub returns-in-Found : goal.returns-in-Found
-returns-in-Found c = rw (c.in-Found.is, ← c.translated.ensures) c.memory_line.ensures
+pub returns-in-Ok : goal.returns-in-Ok
+returns-in-Ok c = rw (c.in-Ok.is, ← c.translated.ensures) c.memory_line.ensures

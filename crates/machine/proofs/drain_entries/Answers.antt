@@ -2,7 +2,7 @@ use Rattle.buffer.specs.Buffer.{drained, leaving}
 use mathlib.Core.Path.{refl}
 use Rattle.machine.proofs.drain_entries.Goals as goal
 
-pub returns-then-used-eq0 : goal.returns-then-used-eq0
+pub returns-else-used-ne0 : goal.returns-else-used-ne0
 unfolding drained leaving
-returns-then-used-eq0 c =
-    rw c.if-used-eq0.true (record { same = refl; fits = rw c.if-used-eq0.true at c.requires })
+returns-else-used-ne0 c =
+    rw c.if-used-ne0.false (record { same = refl; fits = rw c.if-used-ne0.false at c.requires })

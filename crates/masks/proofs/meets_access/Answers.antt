@@ -1,22 +1,29 @@
 use Rattle.words.proofs.Widths.{is_one}
+use Rattle.words.specs.Words.{is_width}
 use Rattle.buffer.specs.Packing.{slot_of}
 use Rattle.buffer.proofs.Meeting.{meets_away, meets_here}
-use mathlib.Core.Path.{sym}
+use Rattle.values.proofs.Cases.{case}
+use borrow.Author.Tests.{ne_eqb, eqb-true, eqb-false}
+use lib.Dec.{eqb}
+use Prim.Native.Nat.{ℕ, ◌*◌, ◌%◌, ◌^◌}
+use mathlib.Core.Bool.{true}
+use mathlib.Core.Path.{◌≡◌, sym, ◌∙◌}
 use Rattle.masks.proofs.meets_access.Goals as goal
+
+-- the ones of a width, as a power
+power : (w : ℕ) → is_width w ≡ true → 1 * 2 ^ w % 2 ^ 64 ≡ 2 ^ w
+power w i =
+    case (eqb w 4)
+    (λ t. rw (eqb-true w 4 t))
+    (λ t.
+    case (eqb w 2)
+    (λ u. rw (eqb-true w 2 u))
+    (λ u. rw (is_one w i (eqb-false w 4 t) (eqb-false w 2 u))))
+
+pub returns-else-w-pa : goal.returns-else-w-pa
+returns-else-w-pa c = let a = c.args in
+    λ b. ne_eqb _ _ c.if-w-pa.false ∙ sym (meets_away (slot_of a.w b) a.width a.pa.0 c.requires.1 (λ q. c.if-w-pa.false (sym q)))
 
 pub returns-then-w-pa : goal.returns-then-w-pa
 returns-then-w-pa c = let a = c.args in
-    λ b. sym (meets_away (slot_of a.w b) a.width a.pa.0 c.requires.1 (λ q. c.if-w-pa.true (sym q)))
-
-pub returns-then-width-eq4 : goal.returns-then-width-eq4
-returns-then-width-eq4 c = let a = c.args in
-    λ b. rw c.if-width-eq4.true (sym (meets_here (slot_of a.w b) 4 a.pa.0 (rw c.if-width-eq4.true at c.requires.1) (sym c.if-w-pa.false)))
-
-pub returns-then-width-eq2 : goal.returns-then-width-eq2
-returns-then-width-eq2 c = let a = c.args in
-    λ b. rw c.if-width-eq2.true (sym (meets_here (slot_of a.w b) 2 a.pa.0 (rw c.if-width-eq2.true at c.requires.1) (sym c.if-w-pa.false)))
-
-pub returns : goal.returns
-returns c = let a = c.args in
-    let e = is_one a.width c.requires.0 c.if-width-eq4.false c.if-width-eq2.false in
-    λ b. rw e (sym (meets_here (slot_of a.w b) 1 a.pa.0 (rw e at c.requires.1) (sym c.if-w-pa.false)))
+    λ b. rw (power a.width c.requires.0) (sym (meets_here (slot_of a.w b) a.width a.pa.0 c.requires.1 (sym c.if-w-pa.true)))

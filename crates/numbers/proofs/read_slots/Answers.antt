@@ -1,73 +1,38 @@
-use Prim.Native.Nat.{◌<◌}
-use mathlib.Core.Path.{subst}
-use mathlib.Core.List.{List}
-use lib.ListN.{length-set}
+use Rattle.std.proofs.Common.{rules, ◌≡◌, ℕ, List, ◌+◌, ◌*◌, ◌<◌, ◌≤◌, length, get_or, drop, replicate, arith, sym, ap, subst, ◌∙◌}
 use Rattle.values.specs.Empty.{empty_slot}
 use Rattle.values.specs.declared.Slot.{Slot}
 use Rattle.buffer.specs.Packing.{slot_of, slots_of}
-use Rattle.buffer.proofs.Slots.{slots_set, length_slots}
-use Rattle.numbers.specs.Code.{buffer_line, part, SlotHolds}
+use Rattle.buffer.proofs.Slots.{slot_at, length_slots}
+use Rattle.numbers.specs.Code.{buffer_line, SlotHolds, ThingsRead}
 use Rattle.numbers.proofs.Slots.{slot_wide, slot_long, slot_good, slot_back, slot_fits, slot_unread}
-use Rattle.numbers.proofs.Each.{Reading, reading_start, reading_on, reading_end, reading_no}
-use borrow.Author.Rules.{rules}
-use native.Mathlib.Omega.{arith}
-use mathlib.Core.Path.{◌≡◌, refl, sym, ◌∙◌, ap}
-use Prim.Native.Nat.{ℕ, ◌+◌, ◌≤◌}
-use lib.ListN.{length}
+use Rattle.numbers.proofs.Each.{things_compared}
 use Rattle.numbers.proofs.read_slots.Goals as goal
 
-pub loop-i-init : goal.loop-i-init
-loop-i-init c = let a = c.args in
-    (reading_start buffer_line 18 slot_wide (length a.words.now) a.numbers.now a.from (slots_of a.words.now a.bytes.now), refl, refl)
-
-pub returns-else-same : goal.returns-else-same
-returns-else-same c = let a = c.args in
-    let l = c.loop-i in
-    let w = c.slot_word-w.result in
-    let b = c.slot_bytes-b.result in
-    let low = c.loop-i-test.true in
-    let long = l.invariant.1 in
-    let place = l.invariant.0.place in
-    let n = length a.words.now in
-    let is-low : l.i < n = omega (arith, low, long) in
-    let room : l.at + 18 ≤ length a.numbers.now = omega (arith, c.requires.1, is-low, place) in
-    reading_no buffer_line 18 slot_wide n a.numbers.now a.from (slots_of a.words.now a.bytes.now) (slots_of l.words l.bytes) l.at l.i
-    l.invariant.0 SlotHolds empty_slot _ is-low
-    (slot_unread a.numbers.now l.at w b _ _ room c.slot_word-w.ensures c.slot_bytes-b.ensures
-    c.slot_numbers-part.ensures c.same.ensures.1 c.if-same.false)
-
-pub loop-i-preserved : goal.loop-i-preserved
-loop-i-preserved c = let a = c.args in
-    let l = c.loop-i in
-    let w = c.slot_word-w.result in
-    let b = c.slot_bytes-b.result in
-    let low = c.loop-i-test.true in
-    let long = l.invariant.1 in
-    let place = l.invariant.0.place in
-    let n = length a.words.now in
-    let is-low : l.i < n = omega (arith, low, long) in
-    let room : l.at + 18 ≤ length a.numbers.now = omega (arith, c.requires.1, is-low, place) in
-    let wide : w < 0x10000000000000000 = search rules in
-    let e = c.slot_numbers-part.ensures in
-    let nums = c.slot_numbers-part.result in
-    let good = slot_good a.numbers.now l.at w b room c.slot_bytes-b.ensures wide in
-    let many : length nums ≡ 18 = ap length e ∙ slot_long (slot_of w b) in (
-      subst (λ (z : List Slot). Reading buffer_line 18 slot_wide n a.numbers.now a.from (slots_of a.words.now a.bytes.now) z
-          (l.at + 18) (l.i + 1))
-          (sym (slots_set l.words l.bytes l.i w b))
-          (reading_on buffer_line 18 slot_wide n a.numbers.now a.from (slots_of a.words.now a.bytes.now) (slots_of l.words
-          l.bytes) l.at l.i
-          l.invariant.0 (slot_of w b) empty_slot nums is-low (length_slots a.words.now a.bytes.now c.requires.0)
-          (ap (λ (k : ℕ). part a.numbers.now l.at k) (sym many) ∙ c.same.ensures.0 c.if-same.true) e
-          (slot_back (slot_of w b) good) (slot_fits (slot_of w b) good)),
-      length-set l.words l.i w ∙ long,
-      length-set l.bytes l.i b ∙ l.invariant.2,
-    )
+pub same_rows-requires-clause-wide : goal.same_rows-requires-clause-wide
+same_rows-requires-clause-wide c = λ i r h e. ap length e ∙ slot_long _
 
 pub returns : goal.returns
-returns c = let l = c.loop-i in
+returns c =
     let a = c.args in
-    reading_end buffer_line 18 slot_wide (length a.words.now) a.numbers.now a.from (slots_of a.words.now a.bytes.now)
-    (slots_of l.words l.bytes) l.at l.i l.invariant.0
-    SlotHolds empty_slot (let h = c.loop-i-test.false in let e = l.invariant.1 in omega (arith, h, e)) (length_slots a.words.now a.bytes.now
-    c.requires.0)
+    let ns = a.numbers.now in
+    let ws = c.set_each.new.things in
+    let bs = c.set_each-2.new.things in
+    let long : length ws ≡ length a.words.now = c.set_each.ensures.0 in
+    let both : length ws ≡ length bs = long ∙ c.requires.0 ∙ sym c.set_each-2.ensures.0 in
+    let slot = λ (i : ℕ). slot_of (get_or ws i 0) (get_or bs i (replicate 16 0)) in
+    let is = λ (i : ℕ). slot_at ws bs i both in
+    let at = λ (i : ℕ). ap (λ (x : Slot). buffer_line.numbers x) (sym (is i)) in
+    let room = λ (i : ℕ) (h : i < length ws). let q : a.from + i * 18 + 18 ≤ length ns = omega (arith, c.requires.1) in q in
+    let word = λ (i : ℕ) (h : i < length ws). c.set_each.ensures.1 i 0 (omega arith) in
+    let low = λ (i : ℕ) (h : i < length ws). c.set_each-2.ensures.1 i (replicate 16 0) (omega (arith, c.requires.0)) in
+    let good = λ (i : ℕ) (h : i < length ws).
+    let wide : get_or ws i 0 < 0x10000000000000000 = search rules in
+    slot_good ns (a.from + i * 18) (get_or ws i 0) (get_or bs i (replicate 16 0)) (room i h) (low i h) wide
+    in
+    subst (λ (n : ℕ). ThingsRead buffer_line SlotHolds empty_slot n (drop a.from ns) (slots_of ws bs) c.same_rows.result) long
+    (things_compared buffer_line 18 slot_wide (length ws) ns a.from SlotHolds empty_slot (slots_of ws bs) _ c.same_rows.result c.same_rows.ensures
+    (length_slots ws bs both)
+    (λ i row h w. sym w.2 ∙ w.1 ∙ at i)
+    (λ i h. subst (λ (x : Slot). buffer_line.thing (buffer_line.numbers x) ≡ x) (sym (is i)) (slot_back (slot i) (good i h)))
+    (λ i h. ap (λ (l : List ℕ). buffer_line.fits l) (sym (at i)) ∙ slot_fits (slot i) (good i h))
+    (λ i h z fits holds. slot_unread ns (a.from + i * 18) (get_or ws i 0) _ (room i h) (word i h) (low i h) (λ q. z (q ∙ at i)) fits))

@@ -1,4 +1,3 @@
-use Prim.Native.Nat.{◌-◌, ◌≤◌}
 use lib.ListN.{replicate}
 use mathlib.Core.List.{[], ◌∷◌, ◌++◌}
 use Rattle.values.proofs.Toward.{Toward}
@@ -6,7 +5,4 @@ use Rattle.numbers.proofs.Cells.{cells}
 use Rattle.numbers.proofs.slot_numbers.Given as goal
 
 abbrev pub invariant-loop-i : goal.invariant-loop-i
-invariant-loop-i l = (l.i ≤ 16) × Toward (cells 16 l.bytes 0 ++ 0 ∷ 0 ∷ []) (replicate 18 0) l.out l.i
-
-abbrev pub decreases-loop-i : goal.decreases-loop-i
-decreases-loop-i l = 16 - l.i
+invariant-loop-i l = Toward (cells 16 l.bytes 0 ++ 0 ∷ 0 ∷ []) (replicate 18 0) l.out l.i

@@ -1,56 +1,33 @@
-use borrow.Author.Rules.{rules}
-use mathlib.Core.Path.{◌∙◌}
-use lib.ListN.{length-set}
-use Rattle.pieces.proofs.Joining.{joining_start, joining_full, joining_end, joining_feed, joining_on}
+use Rattle.std.proofs.Common.{◌≡◌, ℕ, ◌-◌, List, ◌++◌, length, take, ◌≤◌, ap, sym, ◌∙◌, arith, length-take-le}
+use Rattle.std.proofs.lemmas.Slice.{take-put_mid}
+use Rattle.pieces.specs.Pieces.{onto}
+use Rattle.pieces.proofs.Joining.{through, through_low, through_some, through_none, onto_is}
 use Rattle.pieces.proofs.join.Goals as goal
-
-pub loop-i-init : goal.loop-i-init
-loop-i-init c = let a = c.args in
-    joining_start a.line.now a.text.now a.held (search rules)
-
-pub shape_of-line-then-i-text : goal.shape_of-line-then-i-text
-shape_of-line-then-i-text c = let l = c.loop-i in
-    let a = c.args in
-    l.invariant.long
-
-pub returns-then-i-text : goal.returns-then-i-text
-returns-then-i-text c = let l = c.loop-i in
-    let a = c.args in
-    let j = joining_end a.line.now a.text.now a.held l.line l.i l.invariant c.loop-i-test.true c.if-i-text.true in
-    (j.joined, j.count, l.invariant.low, l.invariant.high)
-
-pub bounds-line-held : goal.bounds-line-held
-bounds-line-held c = let l = c.loop-i in
-    let a = c.args in
-    let long = l.invariant.long in
-    search rules
-
-pub shape_of-line-then-b-eq10 : goal.shape_of-line-then-b-eq10
-shape_of-line-then-b-eq10 c = let l = c.loop-i in
-    let a = c.args in
-    length-set l.line _ _ ∙ l.invariant.long
-
-pub returns-then-b-eq10 : goal.returns-then-b-eq10
-returns-then-b-eq10 c = let l = c.loop-i in
-    let a = c.args in
-    let long = l.invariant.long in
-    let j = joining_feed a.line.now a.text.now a.held l.line l.i l.invariant c.loop-i-test.true (search rules) (search rules)
-    c.if-b-eq10.true in
-    (j.joined, j.count, search rules, search rules)
-
-pub loop-i-preserved : goal.loop-i-preserved
-loop-i-preserved c = let l = c.loop-i in
-    let a = c.args in
-    let long = l.invariant.long in
-    joining_on a.line.now a.text.now a.held l.line l.i l.invariant c.loop-i-test.true (search rules) (search rules) c.if-b-eq10.false
-
-pub shape_of-line : goal.shape_of-line
-shape_of-line c = let l = c.loop-i in
-    let a = c.args in
-    l.invariant.long
+use Rattle.pieces.proofs.join.Goals.{in-Some, in-None}
 
 pub returns : goal.returns
-returns c = let l = c.loop-i in
+returns c =
     let a = c.args in
-    let j = joining_full a.line.now a.text.now a.held l.line l.i l.invariant c.loop-i-test.false in
-    (j.joined, j.count, l.invariant.low, l.invariant.high)
+    let m = c.min-most.result in
+    let size = c.match-first_feed.size in
+    let long : length (take m a.text.now) ≡ m = length-take-le m a.text.now (omega arith) in
+    let found = c.first_feed.ensures in
+    let is : size ≡ through (take m a.text.now) =
+    elim c.match-first_feed.branch [
+      | in-Some w ↦ w.size-is ∙ sym (through_some _ _ (sym found ∙ w.in-Some.is))
+      | in-None w ↦ w.size-is ∙ sym long ∙ sym (through_none _ (sym found ∙ w.in-None.is))
+    ]
+    in
+    let low = through_low (take m a.text.now) in
+    let few : size ≤ m = omega arith in
+    let whole : onto (64 - a.held) a.text.now ≡ take size a.text.now =
+    onto_is (64 - a.held) m a.text.now c.min-most.ensures ∙ ap (λ (k : ℕ). take k a.text.now) (sym is)
+    in
+    let after = c.copy_from_slice.ensures.after in
+    let many : length c.copy_from_slice.new.self ≡ size = ap length after ∙ length-take-le size a.text.now (omega arith) in (
+      take-put_mid a.held _ a.line.now c.copy_from_slice.new.self _ (omega arith) (omega arith)
+          ∙ ap (λ (l : List ℕ). take a.held a.line.now ++ l) (after ∙ sym whole),
+      sym (ap length whole ∙ length-take-le size a.text.now (omega arith)),
+      omega arith,
+      omega arith,
+    )

@@ -11,17 +11,17 @@ run_calls-requires c =
     let a = c.args in
     (c.table-table.ensures, held_by a.calls.now a.answers.now _ c.calls_held-n.ensures, c.map_fits-fits.ensures)
 
-pub returns-then-length_fits : goal.returns-then-length_fits
-returns-then-length_fits c =
+pub returns-then-not-length_fits : goal.returns-then-not-length_fits
+returns-then-not-length_fits c =
     let a = c.args in
-    let h = sym c.length_fits.ensures ∙ c.if-length_fits.true in
-    c.run_calls.ensures ∙ sym
-    (run_by a.memory.now a.bad.now a.calls.now a.answers.now c.calls_held-n.result h c.calls_held-n.ensures)
+    let m = a.memory.now in
+    let bad = a.bad.now in
+    rw c.from.ensures (ap (λ (p : Plain). with_refusal (leaves p a.answers.now 0) 1) (c.zero_state.ensures m bad))
+    ∙ sym (run_refused m bad a.calls.now a.answers.now (sym c.length_fits.ensures ∙ c.if-not-length_fits.true))
 
 pub returns : goal.returns
 returns c =
     let a = c.args in
-    let m = a.memory.now in
-    let bad = a.bad.now in
-    ap (λ (p : Plain). with_refusal (leaves p a.answers.now 0) 1) (c.zero_state.ensures m bad)
-    ∙ sym (run_refused m bad a.calls.now a.answers.now (sym c.length_fits.ensures ∙ c.if-length_fits.false))
+    let h = sym c.length_fits.ensures ∙ c.if-not-length_fits.false in
+    c.run_calls.ensures ∙ sym
+    (run_by a.memory.now a.bad.now a.calls.now a.answers.now c.calls_held-n.result h c.calls_held-n.ensures)

@@ -1,8 +1,9 @@
 use Rattle.refusals.specs.Refusals.{map_fits}
 use Rattle.plain.proofs.Runs.{going_start, going_on, going_stop, going_end}
-use mathlib.Core.Path.{sym, ◌∙◌, ap}
+use mathlib.Core.Path.{◌≡◌, sym, ◌∙◌, ap}
 use native.Mathlib.Omega.{arith}
 use Prim.Native.Nat.{ℕ}
+use Rattle.plain.specs.Code.{plain_left}
 use Rattle.plain.proofs.run_calls.Goals as goal
 
 pub loop-i-init : goal.loop-i-init
@@ -47,13 +48,6 @@ pub bounds-answers-i : goal.bounds-answers-i
 bounds-answers-i c =
     omega (arith, c.requires.1.answers_hold, c.loop-i.invariant.long)
 
-pub overflow_add-i : goal.overflow_add-i
-overflow_add-i c =
-    omega (arith, c.ranges.n)
-
-pub loop-i-smaller : goal.loop-i-smaller
-loop-i-smaller c = omega arith
-
 pub loop-i-preserved : goal.loop-i-preserved
 loop-i-preserved c =
     let a = c.args in
@@ -74,5 +68,6 @@ pub returns : goal.returns
 returns c =
     let a = c.args in
     let l = c.loop-i in
-    going_end a.memory.now a.bad.now a.calls.now a.answers.now a.n l.memory l.answers l.s l.i l.invariant
+    let e : l.i ≡ a.n = omega arith in
+    ap (λ (k : ℕ). plain_left l.memory a.bad.now l.answers (record { state = l.s; made = k; refusal = 0 })) (sym e) ∙ going_end a.memory.now a.bad.now a.calls.now a.answers.now a.n l.memory l.answers l.s l.i l.invariant
     c.loop-i-test.false

@@ -1,4 +1,4 @@
-use native.Mathlib.Omega.{arith}
+use Rattle.std.proofs.Common.{arith}
 use Rattle.printed.proofs.Steps.{printing_start, printing_on, printing_end}
 use Rattle.printed.proofs.print.Goals as goal
 
@@ -18,9 +18,6 @@ loop-k-preserved c = let a = c.args in
     let l = c.loop-k in
     printing_on a.out.now a.calls.now a.answers.now a.n a.first l.out l.at l.k l.invariant _ _ c.requires.2
     c.loop-k-test.true c.put_line-at.ensures
-
-pub shape_of-out : goal.shape_of-out
-shape_of-out c = c.loop-k.invariant.laying.long
 
 pub returns : goal.returns
 returns c = let a = c.args in

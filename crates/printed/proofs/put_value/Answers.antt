@@ -4,7 +4,7 @@ use native.Mathlib.Omega.{arith}
 use Rattle.printed.proofs.Decimal.{decimal_ten}
 use Rattle.printed.proofs.Steps.{value_low, value_plain, laid_digits, laid_minus}
 use Rattle.printed.proofs.put_value.Goals as goal
-use Rattle.printed.proofs.put_value.Goals.{then-signed+else-value-ge2147483648, else-signed}
+use Rattle.printed.proofs.put_value.Goals.{else-signed-via-then-signed+else-value-ge2147483648, else-signed-via-else-signed}
 
 pub put_number-requires : goal.put_number-requires
 put_number-requires c = let h = decimal_ten (0x100000000 - c.args.value) (omega arith) in
@@ -24,8 +24,8 @@ put_number-requires-2 c = let h = decimal_ten c.args.value (omega (arith, c.requ
 pub returns : goal.returns
 returns c = let a = c.args in
     laid_digits a.out.now _ a.at _ a.value a.signed c.requires.0
-    (elim c.if-signed.branch [
-      | then-signed+else-value-ge2147483648 w ↦ value_low a.signed a.value w.if-value-ge2147483648.false
-      | else-signed w ↦ value_plain a.signed a.value w.if-signed.false
+    (elim c.else-signed.branch [
+      | else-signed-via-then-signed+else-value-ge2147483648 w ↦ value_low a.signed a.value w.if-value-ge2147483648.false
+      | else-signed-via-else-signed w ↦ value_plain a.signed a.value w.if-signed.false
     ])
     c.put_number-2.ensures

@@ -3,7 +3,7 @@ use Rattle.reach.proofs.commit.Goals as goal
 
 pub place-requires : goal.place-requires
 place-requires c =
-    (c.requires.0.entries_long, c.requires.0.pointer, rw c.in-Walked.is at c.requires.1)
+    (c.requires.0.entries_long, c.requires.0.pointer, rw (c.in-Ok.is, c.in-Walked.is) at c.requires.1)
 
 pub missed-requires : goal.missed-requires
 missed-requires c =
@@ -11,23 +11,23 @@ missed-requires c =
 
 pub returns-in-Flat : goal.returns-in-Flat
 returns-in-Flat c =
-    let a = c.args in rw c.in-Flat.is ((λ l n. commit_flat l a.entries.now a.s n), stay a.s)
+    let a = c.args in rw (c.in-Ok.is, c.in-Flat.is) ((λ l n. commit_flat l a.entries.now a.s n), stay a.s)
 
 pub returns-in-Held : goal.returns-in-Held
 returns-in-Held c =
-    let a = c.args in rw c.in-Held.is ((λ l n. commit_held l a.entries.now a.s n _), stay a.s)
+    let a = c.args in rw (c.in-Ok.is, c.in-Held.is) ((λ l n. commit_held l a.entries.now a.s n _), stay a.s)
 
 pub returns-in-Walked : goal.returns-in-Walked
 returns-in-Walked c =
     let a = c.args in
-    rw c.in-Walked.is (
+    rw (c.in-Ok.is, c.in-Walked.is) (
       (λ l n. commit_walked l a.entries.now a.s n _ c.place.new.entries _ _ _ c.place.ensures
           c.next.ensures.0 c.with_pointer.ensures c.missed.ensures),
       stay_walked a.s _ _ _ c.with_pointer.ensures c.missed.ensures,
     )
 
-pub returns-in-Failed : goal.returns-in-Failed
-returns-in-Failed c =
+pub returns-in-Err : goal.returns-in-Err
+returns-in-Err c =
     let a = c.args in
-    rw c.in-Failed.is
-    ((λ l n. commit_failed l a.entries.now a.s n _ _ _ c.missed-in-Failed.ensures), stay_missed a.s _ c.missed-in-Failed.ensures)
+    rw c.in-Err.is
+    ((λ l n. commit_failed l a.entries.now a.s n _ _ c.missed-in-Err.ensures), stay_missed a.s _ c.missed-in-Err.ensures)

@@ -12,7 +12,7 @@ pub returns-then-faults_alignment : goal.returns-then-faults_alignment
 returns-then-faults_alignment c =
     let a = c.args in
     let e : alignment_faults a.r a.a ≡ true = sym c.faults_alignment.ensures ∙ c.if-faults_alignment.true in
-    record { same = sym (decided_unaligned a.r a.a _ e); ranged = tt; checked_ranged = omega arith }
+    rw c.new.ensures (record { same = sym (decided_unaligned a.r a.a _ e); ranged = tt; checked_ranged = omega arith })
 
 pub returns : goal.returns
 returns c =

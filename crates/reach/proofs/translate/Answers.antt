@@ -9,16 +9,16 @@ use Rattle.reach.proofs.translate.Goals as goal
 
 pub offset_bounds-entries-i : goal.offset_bounds-entries-i
 offset_bounds-entries-i c = let h = lookup_low c.args.entries.now c.args.va _ c.requires.0
-    (sym c.lookup-found.ensures ∙ c.in-At.is) in omega (arith, h)
+    (sym c.lookup-found.ensures ∙ c.in-Some.is) in omega (arith, h)
 
 pub bounds-entries-i : goal.bounds-entries-i
 bounds-entries-i c = let h = lookup_low c.args.entries.now c.args.va _ c.requires.0
-    (sym c.lookup-found.ensures ∙ c.in-At.is) in omega (arith, h, c.requires.0)
+    (sym c.lookup-found.ensures ∙ c.in-Some.is) in omega (arith, h, c.requires.0)
 
-pub returns-in-At : goal.returns-in-At
-returns-in-At c = let a = c.args in
+pub returns-in-Some : goal.returns-in-Some
+returns-in-Some c = let a = c.args in
     let ws = a.entries.now in
-    let e = sym c.lookup-found.ensures ∙ c.in-At.is in
+    let e = sym c.lookup-found.ensures ∙ c.in-Some.is in
     let h = lookup_low ws a.va _ c.requires.0 e in
     record {
       same = held ws a.va a.r (physical a.memory.now a.bad.now) _ _ (sym c.mmu.ensures ∙ c.if-mmu.true) (sym e)
@@ -26,11 +26,11 @@ returns-in-At c = let a = c.args in
       ranged = subst InRange (sym c.entry_of.ensures) (c.requires.1 _ h);
     }
 
-pub returns-in-Nothing : goal.returns-in-Nothing
-returns-in-Nothing c = let a = c.args in
+pub returns-in-None : goal.returns-in-None
+returns-in-None c = let a = c.args in
     record {
       same = walked a.entries.now a.va a.r (physical a.memory.now a.bad.now) _ (sym c.mmu.ensures ∙ c.if-mmu.true)
-          (sym c.in-Nothing.is ∙ c.lookup-found.ensures)
+          (sym c.in-None.is ∙ c.lookup-found.ensures)
           (c.of_walk.ensures.same ∙ ap of_walk c.walk.ensures.same);
       ranged = c.of_walk.ensures.ranged;
     }

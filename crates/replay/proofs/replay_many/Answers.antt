@@ -11,12 +11,12 @@ use Rattle.replay.proofs.replay_many.Goals as goal
 pub settled-after-requires : goal.settled-after-requires
 settled-after-requires c = let a = c.args in
     let b = c.replay_lines-b.ensures in
-    let n = c.least-n.result in
+    let n = c.min-n.result in
     let w = parse_within a.ends n a.text.now in
     let f = parse_few a.ends n a.text.now in
     let e = b.end in
     let m = b.made in
-    let k = c.least-n.ensures in (
+    let k = c.min-n.ensures in (
       rw e w,
       c.requires.0,
       omega arith,
@@ -27,7 +27,7 @@ settled-after-requires c = let a = c.args in
 pub returns : goal.returns
 returns c = let a = c.args in
     let b = c.replay_lines-b in
-    let k = c.least-n in
+    let k = c.min-n in
     let h = held_of a.memory.now a.bad.now a.store.now a.replay in
     let e = k.ensures in
     let room = c.requires.2 in

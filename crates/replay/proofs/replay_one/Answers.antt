@@ -3,19 +3,12 @@ use borrow.Author.Rules.{rules}
 use Prim.Native.Nat.{◌+◌}
 use mathlib.Core.Path.{◌≡◌, sym, ◌∙◌}
 use lib.ListN.{length, take}
-use lib.Seq.{length-take-le}
 use Rattle.fields.proofs.First.{parse_within, parse_few}
 use Rattle.fields.proofs.Calls.{parse_open}
 use Rattle.replay.specs.Code.{held_of}
 use Rattle.held.proofs.Keeping.{kept_means}
 use Rattle.replay.proofs.OnePart.{one_is}
-use borrow.Author.Rules.{rules}
 use Rattle.replay.proofs.replay_one.Goals as goal
-
-pub slice_bounds-join-end : goal.slice_bounds-join-end
-slice_bounds-join-end c = let r = c.args.replay in
-    let long : length r.begun ≡ 64 = c.well_formed.0.1.1.1.1.1.1.1.1.0.1.0.1 in
-    sym long
 
 pub join-taken-requires : goal.join-taken-requires
 join-taken-requires c = let a = c.args in
@@ -23,16 +16,6 @@ join-taken-requires c = let a = c.args in
     let k = kept_means r.lines r.held r.waiting r.begun c.requires in
     let long : length r.begun ≡ 64 = c.well_formed.0.1.1.1.1.1.1.1.1.0.1.0.1 in
     (long, k.held_low)
-
-pub slice_bounds-whole-end : goal.slice_bounds-whole-end
-slice_bounds-whole-end c = let a = c.args in
-    let r = a.replay in
-    let k = kept_means r.lines r.held r.waiting r.begun c.requires in
-    let long : length r.begun ≡ 64 = c.well_formed.0.1.1.1.1.1.1.1.1.0.1.0.1 in
-    let j = c.join-taken in
-    let same : length j.new.line ≡ 64 = j.auto.line ∙ long in
-    let low = j.ensures.2 in
-    sym (length-take-le _ _ (omega arith))
 
 pub replay_lines-b-requires : goal.replay_lines-b-requires
 replay_lines-b-requires c = let a = c.args in

@@ -1,8 +1,6 @@
-use Rattle.std.proofs.Common.{◌≤◌, length}
+use Prim.Native.Nat.{◌≤◌}
+use lib.ListN.{length}
 use Rattle.replay_main.proofs.replay_block.Given as goal
 
-abbrev pub invariant-loop-turns : goal.invariant-loop-turns
-invariant-loop-turns l = l.at ≤ length l.block
-
-abbrev pub decreases-loop-turns : goal.decreases-loop-turns
-decreases-loop-turns l = l.turns
+abbrev pub invariant-loop : goal.invariant-loop
+invariant-loop l = l.at ≤ length l.block

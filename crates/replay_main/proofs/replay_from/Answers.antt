@@ -6,16 +6,16 @@ use lib.Seq.{length-take-le}
 use Rattle.replay.proofs.Bounds.{left_bounded}
 use Rattle.replay_main.proofs.replay_from.Goals as goal
 
-pub slice_bounds-write_lines-end : goal.slice_bounds-write_lines-end
-slice_bounds-write_lines-end c = let a = c.args in
+pub slice_bounds-write_all-end-2 : goal.slice_bounds-write_all-end-2
+slice_bounds-write_all-end-2 c = let a = c.args in
     let p = c.replay_part-p in
     let b = left_bounded _ _ _ _ _ p.ensures in
     let written : p.result.replay.written ≤ length a.out.now = b.written_low in
     let same : length p.new.out ≡ length a.out.now = p.auto.out in
     omega arith
 
-pub slice_bounds-write_lines-end-2 : goal.slice_bounds-write_lines-end-2
-slice_bounds-write_lines-end-2 c = let a = c.args in
+pub slice_bounds-write_all-end-3 : goal.slice_bounds-write_all-end-3
+slice_bounds-write_all-end-3 c = let a = c.args in
     let p = c.replay_part-p in
     let b = left_bounded _ _ _ _ _ p.ensures in
     let written : p.result.replay.written ≤ length a.out.now = b.written_low in

@@ -1,8 +1,8 @@
 use Rattle.sa110.proofs.Shapes.{rows_of, serves_of, called_by_lem}
-use Rattle.machine.specs.Lists.{lists}
+use Rattle.machine.specs.Lists.{lists_of}
 use lib.ListN.{length}
 use native.Mathlib.Omega.{arith}
-use mathlib.Core.Path.{◌≡◌}
+use mathlib.Core.Path.{◌≡◌, sym}
 use borrow.Author.Rules.{rules}
 use Rattle.sa110.proofs.serve.Goals as goal
 
@@ -11,18 +11,18 @@ slice_bounds-step-end c =
     let good = c.well_formed.0 in
     search (rules, good)
 
-pub slice_bounds-step-end-2 : goal.slice_bounds-step-end-2
-slice_bounds-step-end-2 c =
+pub slice_bounds-side-end : goal.slice_bounds-side-end
+slice_bounds-side-end c =
     let good = c.well_formed.0 in
     search (rules, good)
 
-pub slice_bounds-step-end-3 : goal.slice_bounds-step-end-3
-slice_bounds-step-end-3 c =
+pub slice_bounds-side-end-2 : goal.slice_bounds-side-end-2
+slice_bounds-side-end-2 c =
     let good = c.well_formed.0 in
     search (rules, good)
 
-pub slice_bounds-step-end-4 : goal.slice_bounds-step-end-4
-slice_bounds-step-end-4 c =
+pub slice_bounds-side-end-3 : goal.slice_bounds-side-end-3
+slice_bounds-side-end-3 c =
     let good = c.well_formed.0 in
     search (rules, good)
 
@@ -38,15 +38,15 @@ step-o-requires c =
     let bs = c.unpacked-bytes.result in
     let z = c.unpacked-bytes.type_inv in
     let h = serves_of a.memory.now a.bad.now a.store.now s a.cp15 bs c.unpacked-bytes.ensures c.requires e ls ps ws z.1.0.1
-    (rows_of bs z.0 z.1.1) (λ i h. omega (arith, c.slice_known-1.given i)) (λ i h. omega (arith, c.slice_known-2-1.given i)) in
+    (rows_of bs z.0 z.1.1) (λ i h. search (rules, h)) (λ i h. search (rules, h)) in
     (c.table-table.ensures, ws, z.1.0.1, rw c.scalars_of-scalars.ensures h)
 
 pub returns : goal.returns
 returns c =
     let a = c.args in
     let st = c.step-o in
-    let k = (lists st.new.memory a.bad.now st.new.words st.new.bytes st.new.lines
-    st.new.pointers st.new.store) in
-    called_by_lem a.memory.now a.bad.now a.store.now a.state a.cp15 c.unpacked-bytes.result c.unpacked-bytes.ensures
-    c.requires k st.new.entries st.result a.c c.packed-held.result
-    (rw c.scalars_of-scalars.ensures at st.ensures.0) c.packed-held.ensures
+    let h = st.ensures.1 in
+    called_by_lem a.memory.now a.bad.now a.store.now a.state a.cp15 c.unpacked-bytes.result c.unpacked-bytes.ensures c.requires
+    (lists_of st.new.side) st.new.entries st.result a.c c.packed-held.result (rw c.scalars_of-scalars.ensures at st.ensures.0.0)
+    (grind (arith, c.packed-held.ensures, h.bytes)) (search (rules, h.memory)) (sym h.bad)
+    (search (rules, h.store)) (search (rules, h.lines)) (search (rules, h.pointers)) (search (rules, h.words))

@@ -1,30 +1,18 @@
-use native.Mathlib.Omega.{arith}
-use mathlib.Core.Path.{refl, sym, ◌∙◌}
-use Rattle.values.specs.Empty.{empty_entry}
-use Rattle.values.proofs.Alls.{words_no, words_on, words_end}
-use Rattle.tlb.specs.Packing.{entry_of}
+use Rattle.std.proofs.Common.{◌≡◌, ℕ, List, [], ◌∷◌, refl, ◌∙◌, rules, tests}
+use Rattle.std.proofs.lemmas.Iterator.{YieldsList-from_slice}
+use Rattle.std.proofs.lemmas.Iterator.Search.{all_from_yields_List}
+use Rattle.std.specs.List.{list_all}
+use Rattle.values.specs.Lists.{all}
+use Rattle.tlb.specs.Packing.{entry_of, entries_of}
 use Rattle.soundness.specs.Soundness.{entry_sound}
-use Rattle.tlb.proofs.Packing.{entry_zero}
 use Rattle.soundness_test.proofs.entries_sound.Goals as goal
 
-pub loop-i-init : goal.loop-i-init
-loop-i-init c = (omega arith, refl)
-
-pub loop-i-preserved : goal.loop-i-preserved
-loop-i-preserved c = let a = c.args in
-    let l = c.loop-i in (
-      omega arith,
-      sym (words_on entry_sound entry_of empty_entry entry_zero a.entries.now l.i (omega arith)
-          (sym c.entry_sound.ensures ∙ c.if-entry_sound.true)) ∙ l.invariant.1,
-    )
-
-pub returns-else-entry_sound : goal.returns-else-entry_sound
-returns-else-entry_sound c = let a = c.args in
-    let l = c.loop-i in
-    sym (words_no entry_sound entry_of empty_entry entry_zero a.entries.now l.i (omega arith)
-    (sym c.entry_sound.ensures ∙ c.if-entry_sound.false)) ∙ l.invariant.1
+same : (ws : List ℕ) → list_all (λ w. entry_sound (entry_of w)) ws ≡ all entry_sound (entries_of ws)
+unfolding all
+same [] = refl
+same (w ∷ ws) = rw (same ws)
 
 pub returns : goal.returns
-returns c = let a = c.args in
-    let l = c.loop-i in
-    sym (words_end entry_sound entry_of empty_entry entry_zero a.entries.now l.i (omega arith)) ∙ l.invariant.1
+returns c = let ws = c.args.entries.now in
+    all_from_yields_List (λ (w : ℕ). entry_sound (entry_of w)) _ _ c.all.result c.all.ensures.ran (YieldsList-from_slice ws cc)
+    (λ x b q k. search (rules, tests)) ∙ same ws

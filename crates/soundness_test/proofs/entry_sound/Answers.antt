@@ -6,5 +6,5 @@ use Rattle.soundness_test.proofs.entry_sound.Goals as goal
 pub returns-then-w-eq1 : goal.returns-then-w-eq1
 returns-then-w-eq1 c = let a = c.args in c.fields_sound.ensures ∙ sym (entry_odd a.w (omega arith) c.if-w-eq1.true)
 
-pub returns : goal.returns
-returns c = let a = c.args in sym (entry_even a.w (omega arith) c.if-w-eq1.false)
+pub returns-else-w-eq1 : goal.returns-else-w-eq1
+returns-else-w-eq1 c = let a = c.args in sym (entry_even a.w (omega arith) c.if-w-eq1.false)

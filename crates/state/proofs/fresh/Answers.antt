@@ -3,4 +3,4 @@ use Rattle.state.proofs.fresh.Goals as goal
 
 pub returns : goal.returns
 returns c =
-    let a = c.args in λ m bad st. rw c.zero_counts-counts.ensures (fresh_is a.size m bad st)
+    let a = c.args in λ m bad st. rw c.zero_counts.ensures (fresh_is a.size m bad st)

@@ -1,5 +1,7 @@
 use Rattle.step.proofs.Runs.{refusing_start, refusing_on, refusing_stop, refusing_end}
-use mathlib.Core.Path.{sym, ◌∙◌}
+use mathlib.Core.Path.{◌≡◌, sym, ◌∙◌, ap}
+use Prim.Native.Nat.{ℕ}
+use Rattle.trace.specs.Fold.{leaves}
 use native.Mathlib.Omega.{arith}
 use Rattle.step.proofs.refuse_calls.Goals as goal
 
@@ -22,9 +24,6 @@ offset_bounds-answers-i c = omega (arith, c.well_formed.1.0, c.requires.answers_
 pub bounds-answers-i : goal.bounds-answers-i
 bounds-answers-i c = omega (arith, c.requires.answers_hold, c.loop-i.invariant.long)
 
-pub overflow_add-i : goal.overflow_add-i
-overflow_add-i c = omega (arith, c.ranges.n)
-
 pub loop-i-preserved : goal.loop-i-preserved
 loop-i-preserved c = let a = c.args in let l = c.loop-i in refusing_on a.calls.now a.answers.now a.n a.refusal c.requires l.answers
     l.i l.invariant c.code.result c.loop-i-test.true (sym c.is_call_at.ensures ∙ c.if-not-is_call_at.false)
@@ -34,5 +33,7 @@ pub shape_of-answers : goal.shape_of-answers
 shape_of-answers c = c.loop-i.invariant.long
 
 pub returns : goal.returns
-returns c = let a = c.args in let l = c.loop-i in refusing_end a.calls.now a.answers.now a.n a.refusal c.requires l.answers
+returns c = let a = c.args in let l = c.loop-i in
+    let e : l.i ≡ a.n = omega arith in
+    ap (λ (k : ℕ). leaves {S = Unit {0}} tt l.answers k) (sym e) ∙ refusing_end a.calls.now a.answers.now a.n a.refusal c.requires l.answers
     l.i l.invariant c.loop-i-test.false

@@ -1,19 +1,20 @@
-use Rattle.std.proofs.Common.{◌≡◌, ℕ, ◌+◌, ◌-◌, Bool, ◌||◌, eqb, get_or, sym, ap, ◌∙◌, arith, rules}
-use Rattle.soundness.proofs.Keys.{again, again_none, again_on}
+use Rattle.std.proofs.Common.{◌≡◌, ℕ, ◌+◌, ◌-◌, List, [], ◌∷◌, eqb, take, drop, get_or, refl, ap, ◌∙◌, arith}
+use Rattle.std.proofs.lemmas.Bool.Decides.{nat_tests}
+use Rattle.std.specs.List.{list_any}
+use Rattle.values.specs.Lists.{any}
 use Rattle.tags_test.proofs.key_again.Goals as goal
 
-pub loop-d-init : goal.loop-d-init
-loop-d-init c = let a = c.args in (search rules, search rules, sym (again_none a.keys.now a.i))
+turned : (x y : ℕ) → eqb y x ≡ eqb x y
+turned x y = grind (arith, nat_tests)
 
-pub loop-d-preserved : goal.loop-d-preserved
-loop-d-preserved c = let a = c.args in
-    let l = c.loop-d in
-    let k = a.keys.now in
-    let same = eqb (get_or k a.i 0) (get_or k (a.i + l.d) 0) in
-    (omega arith, omega arith, ap (λ (b : Bool). b || same) l.invariant.2 ∙ again_on k a.i l.d l.invariant.0 (omega arith))
+among : (x : ℕ) (ys : List ℕ) → list_any (λ y. eqb y x) ys ≡ any (eqb x) ys
+unfolding any
+among x [] = refl
+among x (y ∷ ys) = rw (turned x y, among x ys)
 
 pub returns : goal.returns
-returns c = let a = c.args in
-    let l = c.loop-d in
-    let e : l.d - 1 ≡ 16 = omega arith in
-    l.invariant.2 ∙ ap (λ (d : ℕ). again a.keys.now a.i d) e
+returns c = let k = c.args.keys.now in
+    let i = c.args.i in
+    let n : i + 17 - (i + 1) ≡ 16 = omega arith in
+    c.contains.ensures.value ∙ among (get_or k i 0) (take (i + 17 - (i + 1)) (drop (i + 1) k))
+    ∙ ap (λ (m : ℕ). any (eqb (get_or k i 0)) (take m (drop (i + 1) k))) n

@@ -18,6 +18,5 @@ empty_key w p x e z h =
 
 pub returns : goal.returns
 returns c = let a = c.args in
-    let x = c.wrapping_sub_u32.result in
-    let s : (x + 1) % 0x100000000 ≡ a.w % 2 = c.wrapping_sub_u32.ensures.value in
+    let x = (a.w % 2 + 0xFFFFFFFF) % 0x100000000 in
     (λ e. let z : x ≡ 0 = omega arith in valid_key a.w a.p x z, λ e. let z : x ≡ 0xFFFFFFFF = omega arith in empty_key a.w a.p x e z (omega arith))

@@ -1,11 +1,11 @@
-use Rattle.std.proofs.Common.{◌≡◌, ℕ, ◌*◌, ◌≤◌, true, sym, refl, ◌∙◌, subst, arith, rules}
+use Rattle.std.proofs.Common.{◌≡◌, ℕ, ◌*◌, ◌≤◌, sym, refl, ◌∙◌, subst, arith, rules}
 use Rattle.cache.specs.Packing.{lines_of}
 use Rattle.soundness.proofs.Tags.{set_apart, set_bad, set_good, sets_end}
 use Rattle.soundness.proofs.Keys.{Round, Alone, none_alone, alone_join, alone_apart, again_twice}
 use Rattle.tags_test.proofs.tags_sound.Goals as goal
 
 pub sets-init : goal.sets-init
-sets-init c = (refl, search rules, refl)
+sets-init c = (refl, refl)
 
 pub keys_of-keys-requires : goal.keys_of-keys-requires
 keys_of-keys-requires c = (c.requires, omega arith)
@@ -32,12 +32,12 @@ sets-preserved c = let a = c.args in
     let base : t.s * 32 ≤ 480 = omega arith in
     let apart = alone_apart a.lines.now (t.s * 32) k.result l.invariant.3 (record { key = k.ensures }) alone in
     let good = set_apart a.lines.now (t.s * 32) long base apart in
-    (l.invariant.0, omega arith, sym (set_good (lines_of a.lines.now) t.s (omega arith) good) ∙ t.invariant.2)
+    (l.invariant.0, sym (set_good (lines_of a.lines.now) t.s (omega arith) good) ∙ t.invariant.1)
 
 pub returns-after-sets : goal.returns-after-sets
 returns-after-sets c = let a = c.args in
     let t = c.sets in
-    λ n e. t.invariant.0 ∙ sym (sets_end (lines_of a.lines.now) t.s (omega arith)) ∙ t.invariant.2
+    λ n e. t.invariant.0 ∙ sym (sets_end (lines_of a.lines.now) t.s (omega arith)) ∙ t.invariant.1
 
 pub returns-then-keys_again : goal.returns-then-keys_again
 returns-then-keys_again c = let a = c.args in
@@ -51,4 +51,4 @@ returns-then-keys_again c = let a = c.args in
     λ n e.
     let keyed : Round a.lines.now (t.s * 32) k.result = record { key = k.ensures } in
     let bad = again_twice a.lines.now (t.s * 32) k.result n l.p r.result long base l.invariant.3 keyed e low r.ensures.1 c.if-keys_again.true in
-    sym (set_bad (lines_of a.lines.now) t.s (omega arith) bad) ∙ t.invariant.2
+    sym (set_bad (lines_of a.lines.now) t.s (omega arith) bad) ∙ t.invariant.1

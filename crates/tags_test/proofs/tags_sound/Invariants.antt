@@ -7,11 +7,5 @@ use Rattle.tags_test.proofs.tags_sound.Given as goal
 abbrev pub invariant-loop-p : goal.invariant-loop-p
 invariant-loop-p l = (l.sound ≡ true) × (l.p ≤ 32) × (l.p % 8 ≡ 0) × (length l.keys ≡ 64) × Alone l.keys 0 l.p
 
-abbrev pub decreases-loop-p : goal.decreases-loop-p
-decreases-loop-p l = 32 - l.p
-
 abbrev pub invariant-sets : goal.invariant-sets
-invariant-sets l = (l.sound ≡ true) × (l.s ≤ 16) × (tags_sound (16 - l.s) (drop (l.s * 32) (lines_of l.lines)) ≡ tags_sound 16 (lines_of l.lines))
-
-abbrev pub decreases-sets : goal.decreases-sets
-decreases-sets l = 16 - l.s
+invariant-sets l = (l.sound ≡ true) × (tags_sound (16 - l.s) (drop (l.s * 32) (lines_of l.lines)) ≡ tags_sound 16 (lines_of l.lines))

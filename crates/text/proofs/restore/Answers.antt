@@ -1,12 +1,11 @@
-use mathlib.Core.Path.{ap}
+use mathlib.Core.Path.{refl, ap}
 use Rattle.numbers.specs.Text.{Saved, machine_with}
 use Rattle.text.proofs.restore.Goals as goal
 
+pub returns-in_default : goal.returns-in_default
+returns-in_default c = (refl, c.in_default.ensures)
+
 pub returns : goal.returns
-returns c = let a = c.args in
-    let r = c.read_all-read.ensures in
-    record {
-      same = λ f m bad st. rw c.packed-slots.ensures (ap (λ (s : Saved). machine_with m bad st s) (r.same f));
-      fit = r.fits;
-      unfit = r.unfit;
-    }
+returns c =
+    let r = c.in-Some.ensures in
+    (λ m bad st. rw c.packed-slots.ensures (ap (λ (s : Saved). machine_with m bad st s) r.same), r.fits)

@@ -1,5 +1,4 @@
 use mathlib.Core.Path.{◌≡◌}
-use Prim.Native.Nat.{◌-◌, ◌≤◌}
 use lib.ListN.{drop}
 use Rattle.values.specs.declared.VirtualAddress.{VirtualAddress}
 use Rattle.values.specs.Lists.{first_from}
@@ -11,7 +10,4 @@ use Rattle.tlb.proofs.lookup.Given as goal
 
 abbrev pub invariant-loop-i : goal.invariant-loop-i
 invariant-loop-i l =
-    (l.i ≤ 32) × ((va : VirtualAddress) → l.k ≡ keys_of va → first_from (covers va) l.i (drop l.i (entries_of l.entries)) ≡ spec.lookup (entries_of l.entries) va)
-
-abbrev pub decreases-loop-i : goal.decreases-loop-i
-decreases-loop-i l = 32 - l.i
+    (va : VirtualAddress) → l.k ≡ keys_of va → first_from (covers va) l.i (drop l.i (entries_of l.entries)) ≡ spec.lookup (entries_of l.entries) va

@@ -12,4 +12,4 @@ returns-then-kind-eq2 c = let a = c.args in
     record { same = sym (first_section _ a.va _ c.if-kind-eq2.true); ranged = section_ranged a.w a.va (search rules) (search rules) }
 
 pub returns : goal.returns
-returns c = record { same = sym (first_none _ c.args.va _ c.if-kind-eq1.false c.if-kind-eq2.false); ranged = search rules }
+returns c = rw c.new.ensures (record { same = sym (first_none _ c.args.va _ c.if-kind-eq1.false c.if-kind-eq2.false); ranged = search rules })

@@ -19,4 +19,4 @@ returns-then-kind-eq2 c = let a = c.args in
     }
 
 pub returns : goal.returns
-returns c = record { same = sym (second_none _ c.args.va _ c.if-kind-eq1.false c.if-kind-eq2.false); ranged = search rules }
+returns c = rw c.new.ensures (record { same = sym (second_none _ c.args.va _ c.if-kind-eq1.false c.if-kind-eq2.false); ranged = search rules })

@@ -1,27 +1,26 @@
 use native.Mathlib.Omega.{arith}
-use mathlib.Core.Path.{◌∙◌}
+use mathlib.Core.Path.{◌≡◌, refl, ◌∙◌}
 use mir.Facts.{to_z-of_z}
-use mir.Syntax.{w32}
-use Rattle.words.proofs.Widths.{is_one}
+use mir.Syntax.{w8, w16, w32}
 use borrow.Author.Rules.{rules}
+use Rattle.words.proofs.Signs.{signed_cast}
 use Rattle.words.proofs.signed.Goals as goal
 
-pub returns-then-width-eq4 : goal.returns-then-width-eq4
-returns-then-width-eq4 c = rw c.before.if-width-eq4.true (to_z-of_z {w = w32} (search rules) ∙ c.signed_word.ensures)
+pub returns-in-4 : goal.returns-in-4
+returns-in-4 c =
+    rw c.in-4.is
+    (to_z-of_z {w = w32} (search rules) ∙ c.cast_signed.ensures
+    ∙ signed_cast w32 0x80000000 c.args.value refl refl (omega (arith, rw c.in-4.is at c.requires.1)))
 
-pub signed_half-requires : goal.signed_half-requires
-signed_half-requires c = let start = c.before.before in omega (arith, rw c.if-width-eq2.true at start.requires.1)
+pub returns-in-2 : goal.returns-in-2
+returns-in-2 c =
+    rw c.in-2.is
+    (to_z-of_z {w = w32} (search rules) ∙ to_z-of_z {w = w16} (search rules) ∙ c.cast_signed-in-2.ensures
+    ∙ signed_cast w16 0x8000 c.args.value refl refl (omega (arith, rw c.in-2.is at c.requires.1)))
 
-pub returns-then-width-eq2 : goal.returns-then-width-eq2
-returns-then-width-eq2 c = rw c.before.if-width-eq2.true (to_z-of_z {w = w32} (search rules) ∙ c.signed_half.ensures)
-
-pub signed_byte-requires : goal.signed_byte-requires
-signed_byte-requires c = let else1 = c.before in
-    let start = else1.before in
-    omega (arith, rw (is_one _ start.requires.0 else1.if-width-eq4.false c.if-width-eq2.false) at start.requires.1)
-
-pub returns : goal.returns
-returns c = let else2 = c.before in
-    let else1 = else2.before in
-    let start = else1.before in
-    rw (is_one _ start.requires.0 else1.if-width-eq4.false else2.if-width-eq2.false) (to_z-of_z {w = w32} (search rules) ∙ c.signed_byte.ensures)
+pub returns-in_default : goal.returns-in_default
+returns-in_default c =
+    let e : c.args.width ≡ 1 = search rules in
+    rw e
+    (to_z-of_z {w = w32} (search rules) ∙ to_z-of_z {w = w8} (search rules) ∙ c.cast_signed-in_default.ensures
+    ∙ signed_cast w8 0x80 c.args.value refl refl (omega (arith, rw e at c.requires.1)))
