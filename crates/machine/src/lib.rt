@@ -64,7 +64,7 @@ fn with_counts(s: Scalars, c: Counts) -> Scalars
     of_numbers(s.cp15.registers, s.cp15.pointer, c, s.used)
 }
 
-// One more call.
+// One more call. The functions for the five counts differ in a field alone; a field is no parameter, and each contract names its own definition.
 pub fn counted(s: Scalars) -> Scalars
     requires { s.counts.calls < count_limit }
     ensures { result ≡ spec.with_counts s (counts.counted s.counts) }

@@ -171,7 +171,7 @@ fn check_by(table: &[u8; 256], r: Registers, a: Access, e: Entry) -> Result<Plac
     judged(right, e, va)
 }
 
-// Whether a translation lets an access pass. Both machines call it at each access: a call costs more than what is in it.
+// Whether a translation lets an access pass. In its two callers, one in each machine, an access takes about a hundred instructions less than by a call.
 #[inline(always)]
 pub fn check(
     table: &[u8; 256],
