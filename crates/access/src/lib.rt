@@ -22,7 +22,18 @@ fn passed(side: &mut Lent, s: Scalars, a: Access, p: Place) -> Outcome
 {
     let k = a.kind;
     if values::is_store(k) {
-        return swaps::store_or_swap(side, s, a, values::stored_value(k), p);
+        return swaps::store_or_swap(
+            side.memory,
+            side.bad,
+            side.words,
+            side.bytes,
+            side.lines,
+            side.store,
+            s,
+            a,
+            values::stored_value(k),
+            p,
+        );
     }
     loads::load(side, s, a, p)
 }

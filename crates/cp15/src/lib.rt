@@ -6,11 +6,11 @@ ghost use Rattle.cache.specs.Packing.{lines_of};
 ghost use Rattle.cache.specs.Dcache as dcache;
 ghost use Rattle.registers.specs.Pairs as pairs;
 ghost use Rattle.machine.specs.Machine.{Machine};
-ghost use Rattle.machine.specs.Lists.{Lists, machine_of, stepped_of, Turns, lists_of, Kept};
+ghost use Rattle.machine.specs.Lists.{Lists, lists, machine_of, stepped_of, Turns};
 ghost use Rattle.machine.specs.Ready.{CleanReady};
 ghost use Rattle.cp15.specs.Operations as spec;
 
-use machine::{Lent, Outcome, Scalars};
+use machine::{Outcome, Scalars};
 use values::{Answer, Transfer, VirtualAddress};
 
 // A register read.
@@ -51,27 +51,27 @@ fn flush_line(lines: &mut [u64], va: VirtualAddress)
 }
 
 // The line of a virtual address is cleaned, if it is held.
-fn clean(side: &mut Lent, s: Scalars, va: VirtualAddress) -> Scalars
-    requires { (va.0 < 0x100000000) × CleanReady side.old.memory.now side.old.words.now side.old.bytes.now side.old.lines.now side.old.store.now s }
-    ensures { Turns (lists_of side.old) s (lists_of side.new) result (λ (m : Machine). spec.cleaned_line m va) × Kept side.old side.new }
+fn clean(
+    memory: &mut [u8],
+    bad: &[u8],
+    words: &mut [u64],
+    bytes: &mut [[u8; 16]; 8],
+    lines: &mut [u64],
+    store: &[u8],
+    s: Scalars,
+    va: VirtualAddress,
+) -> Scalars
+    requires { (va.0 < 0x100000000) × CleanReady memory.old words.old bytes.old lines.old store.now s }
+    ensures { (pointers : List ℕ)
+        → Turns (lists memory.old bad.now words.old bytes.old lines.old pointers
+        store.now) s
+        (lists memory.new bad.now words.new bytes.new lines.new pointers store.now) result
+        (λ (m : Machine). spec.cleaned_line m va) }
 {
-    let lines = &mut *side.lines;
     let found = cache::find(lines, va);
     match found {
         Some(i) => {
-            let bad = side.bad;
-            let bytes = &mut *side.bytes;
-            let store = &mut *side.store;
-            let n = cleans::clean_line(
-                side.memory,
-                bad,
-                side.words,
-                bytes,
-                s.used,
-                side.lines,
-                store,
-                i,
-            );
+            let n = cleans::clean_line(memory, bad, words, bytes, s.used, lines, store, i);
             machine::with_used(machine::sent(s, n.halves), n.used)
         },
         None => s,
@@ -79,24 +79,37 @@ fn clean(side: &mut Lent, s: Scalars, va: VirtualAddress) -> Scalars
 }
 
 // The operations of register 7.
-fn operate_seven(side: &mut Lent, s: Scalars, t: Transfer, va: VirtualAddress) -> Scalars
-    requires { (t.register ≡ 7) × (va.0 < 0x100000000)
-        × CleanReady side.old.memory.now side.old.words.now side.old.bytes.now side.old.lines.now side.old.store.now s }
-    ensures { Turns (lists_of side.old) s (lists_of side.new) result (λ (m : Machine). spec.operated m t va) × Kept side.old side.new }
+fn operate_seven(
+    memory: &mut [u8],
+    bad: &[u8],
+    words: &mut [u64],
+    bytes: &mut [[u8; 16]; 8],
+    lines: &mut [u64],
+    store: &[u8],
+    s: Scalars,
+    t: Transfer,
+    va: VirtualAddress,
+) -> Scalars
+    requires { (t.register ≡ 7) × (va.0 < 0x100000000) × CleanReady memory.old words.old bytes.old lines.old store.now s }
+    ensures { (pointers : List ℕ)
+        → Turns (lists memory.old bad.now words.old bytes.old lines.old pointers
+        store.now) s
+        (lists memory.new bad.now words.new bytes.new lines.new pointers store.now) result
+        (λ (m : Machine). spec.operated m t va) }
 {
     if is_flush(t) {
-        cache::flush(side.lines);
+        cache::flush(lines);
         return s;
     }
     if registers::is_pair(t, 1, 6) {
-        flush_line(side.lines, va);
+        flush_line(lines, va);
         return s;
     }
     if registers::is_pair(t, 1, 10) {
-        return clean(side, s, va);
+        return clean(memory, bad, words, bytes, lines, store, s, va);
     }
     if registers::is_pair(t, 4, 10) {
-        return machine::drain(side.memory, side.bad, side.words, side.bytes, s);
+        return machine::drain(memory, bad, words, bytes, s);
     }
     s
 }
@@ -118,20 +131,28 @@ fn operate_eight(entries: &mut [u64], t: Transfer, va: VirtualAddress)
 
 // The operation of a write, of which the value written is the virtual address.
 fn operate(
-    side: &mut Lent,
+    memory: &mut [u8],
+    bad: &[u8],
+    words: &mut [u64],
+    bytes: &mut [[u8; 16]; 8],
+    lines: &mut [u64],
+    store: &[u8],
     entries: &mut [u64],
     s: Scalars,
     t: Transfer,
     va: VirtualAddress,
 ) -> Scalars
-    requires { (length entries.old ≡ 32) × (va.0 < 0x100000000)
-        × CleanReady side.old.memory.now side.old.words.now side.old.bytes.now side.old.lines.now side.old.store.now s }
-    ensures { ((size : ℕ) → machine_of (lists_of side.new) entries.new result size
-        ≡ spec.operated (machine_of (lists_of side.old) entries.old s size) t va)
-        × (length side.new.bytes.now ≡ 8) × Kept side.old side.new }
+    requires { (length entries.old ≡ 32) × (va.0 < 0x100000000) × CleanReady memory.old words.old bytes.old lines.old store.now s }
+    ensures { ((pointers : List ℕ) (size : ℕ)
+        → machine_of (lists memory.new bad.now words.new bytes.new lines.new pointers store.now)
+        entries.new result size
+        ≡ spec.operated
+        (machine_of (lists memory.old bad.now words.old bytes.old lines.old pointers store.now)
+        entries.old s size) t va)
+        × (length bytes.new ≡ 8) }
 {
     if t.register == 7 {
-        return operate_seven(side, s, t, va);
+        return operate_seven(memory, bad, words, bytes, lines, store, s, t, va);
     }
     if t.register == 8 {
         operate_eight(entries, t, va);
@@ -140,17 +161,33 @@ fn operate(
     s
 }
 
-// A write: the operation, then the register.
-pub fn write(side: &mut Lent, entries: &mut [u64], s: Scalars, t: Transfer, v: u32) -> Outcome
-    requires { (length entries.old ≡ 32) × CleanReady side.old.memory.now side.old.words.now side.old.bytes.now side.old.lines.now side.old.store.now s }
-    ensures { ((size : ℕ) → stepped_of (lists_of side.new) entries.new size result
-        ≡ spec.write (machine_of (lists_of side.old) entries.old s size) t v)
-        × (length side.new.bytes.now ≡ 8) × Kept side.old side.new }
+// A write: the operation, then the register. It and what it calls are lent the lists one by one: what README names asks for no more than it needs, and
+// `machine::Lent` asks for the pointers, and for a store that may be written.
+pub fn write(
+    memory: &mut [u8],
+    bad: &[u8],
+    words: &mut [u64],
+    bytes: &mut [[u8; 16]; 8],
+    lines: &mut [u64],
+    store: &[u8],
+    entries: &mut [u64],
+    s: Scalars,
+    t: Transfer,
+    v: u32,
+) -> Outcome
+    requires { (length entries.old ≡ 32) × CleanReady memory.old words.old bytes.old lines.old store.now s }
+    ensures { ((pointers : List ℕ) (size : ℕ)
+        → stepped_of (lists memory.new bad.now words.new bytes.new lines.new pointers store.now)
+        entries.new size result
+        ≡ spec.write
+        (machine_of (lists memory.old bad.now words.old bytes.old lines.old pointers store.now)
+        entries.old s size) t v)
+        × (length bytes.new ≡ 8) }
 {
     let r = s.cp15.registers;
     let after = registers::written(r, t.register, v);
     let va = VirtualAddress(v);
-    let u = operate(side, entries, s, t, va);
+    let u = operate(memory, bad, words, bytes, lines, store, entries, s, t, va);
     Outcome {
         scalars: machine::with_registers(u, after),
         answer: Answer::Value(0),

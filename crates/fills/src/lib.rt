@@ -12,12 +12,15 @@ ghost use Rattle.cache.specs.Packing.{line_of, side_of, SentIs, SendsLine, Fills
 use cleans::Sent;
 use values::{Line, PhysicalAddress, VirtualAddress};
 
-// The 32 bytes of a line of memory go to the cache store.
+// The 32 bytes of a line of memory go to the cache store, half by half.
 fn read_line(store: &mut [u8], at: usize, memory: &[u8], from: usize)
     requires { (at + 32 ≤ length store.old) × (from + 32 ≤ length memory.now) }
     ensures { store.new ≡ spec.copied store.old at memory.now from 32 }
 {
-    store[at..at + 32].copy_from_slice(&memory[from..from + 32]);
+    let low = cleans::half_at(memory, from);
+    let high = cleans::half_at(memory, from + 16);
+    store[at..at + 16].copy_from_slice(&low);
+    store[at + 16..at + 32].copy_from_slice(&high);
 }
 
 // The word of a valid clean line.

@@ -27,8 +27,9 @@ names t = record {
   store = t.store.ghost_name;
 }
 
-pub kept : {t u : Lent} → names u ≡ names t → length u.memory.now ≡ length t.memory.now → length u.words.now ≡ length t.words.now → Kept t u
-kept e m w = record {
+pub kept : {t u : Lent} → names u ≡ names t → length u.memory.now ≡ length t.memory.now → length u.words.now ≡ length t.words.now
+    → length u.lines.now ≡ length t.lines.now → length u.pointers.now ≡ length t.pointers.now → length u.store.now ≡ length t.store.now → Kept t u
+kept e m w l p s = record {
   memory = ap (λ (x : Names). x.memory) e;
   bad = ap (λ (x : Names). x.bad) e;
   words = ap (λ (x : Names). x.words) e;
@@ -38,4 +39,7 @@ kept e m w = record {
   store = ap (λ (x : Names). x.store) e;
   memory_long = m;
   words_long = w;
+  lines_long = l;
+  pointers_long = p;
+  store_long = s;
 }

@@ -40,11 +40,18 @@ pub record Leaves (l : Lists) (s : Scalars) (k : Lists) (o : Outcome) (f : Machi
   pub same : (entries : List ℕ) (size : ℕ) → stepped_of k entries size o ≡ f (machine_of l entries s size)
   pub bytes_long : length k.bytes ≡ 8
 
+-- the same of a function that is lent neither lines nor pointers nor cache store
+abbrev pub LeavesBelow : (memory bad words : List ℕ) (bytes : List (List ℕ)) → Scalars → (memory' words' : List ℕ) (bytes' : List (List ℕ)) → Outcome
+    → (Machine → Stepped) → Type 0
+LeavesBelow memory bad words bytes s memory' words' bytes' o f =
+    (lines pointers store : List ℕ)
+    → Leaves (lists memory bad words bytes lines pointers store) s (lists memory' bad words' bytes' lines pointers store) o f
+
 -- the lists behind a struct of references
 abbrev pub lists_of : Lent → Lists
 lists_of t = lists t.memory.now t.bad.now t.words.now t.bytes.now t.lines.now t.pointers.now t.store.now
 
--- the references are still those that came in, and memory and the buffer's words are as long as they were
+-- the references are still those that came in, and the lists are as long as they were
 pub record Kept (t u : Lent) : Type 0 where
   pub memory : u.memory.ghost_name ≡ t.memory.ghost_name
   pub bad : u.bad.now ≡ t.bad.now
@@ -55,3 +62,6 @@ pub record Kept (t u : Lent) : Type 0 where
   pub store : u.store.ghost_name ≡ t.store.ghost_name
   pub memory_long : length u.memory.now ≡ length t.memory.now
   pub words_long : length u.words.now ≡ length t.words.now
+  pub lines_long : length u.lines.now ≡ length t.lines.now
+  pub pointers_long : length u.pointers.now ≡ length t.pointers.now
+  pub store_long : length u.store.now ≡ length t.store.now

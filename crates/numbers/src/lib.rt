@@ -366,11 +366,8 @@ pub fn read_all(
         (λ h. code.AllRead numbers.now (code.saved_by h entries.new lines.new pointers.new words.new bytes.new)) }
 {
     let head = read_head(numbers, pointers);
-    if read_entries(numbers, 29, entries)
-        && read_lines(numbers, 381, lines)
-        && read_slots(numbers, 2941, words, bytes)
-    {
-        return Some(head);
+    if read_entries(numbers, 29, entries) && read_lines(numbers, 381, lines) {
+        return read_slots(numbers, 2941, words, bytes).then_some(head);
     }
     None
 }

@@ -1,5 +1,5 @@
 -- Decimal digits: how many a number has, and the same digits taken from the last on.
-use Prim.Native.Nat.{ℕ, zero, suc, ◌+◌, ◌*◌, ◌/◌, ◌%◌, ◌^◌, ◌<◌, ◌≤◌}
+use Prim.Native.Nat.{ℕ, zero, suc, ◌+◌, ◌*◌, ◌-◌, ◌/◌, ◌%◌, ◌^◌, ◌<◌, ◌≤◌}
 use native.Mathlib.Omega.{arith}
 use native.Mathlib.Numerals.{add-one}
 use mathlib.Core.Path.{◌≡◌, refl, sym, ◌∙◌, ap}
@@ -22,6 +22,13 @@ pub tens_pos : (k : ℕ) → 1 ≤ tens k
 unfolding tens
 tens_pos zero = omega arith
 tens_pos (suc k) = let h = tens_pos k in omega arith
+
+-- a greater exponent has no smaller power
+pub tens_rise : (i j : ℕ) → i ≤ j → tens i ≤ tens j
+unfolding tens
+tens_rise zero j h = tens_pos j
+tens_rise (suc i) zero h = absurd (omega arith)
+tens_rise (suc i) (suc j) h = let g = tens_rise i j (omega arith) in omega arith
 
 -- ---- decimal, digit by digit
 
@@ -129,3 +136,44 @@ digits_counted n k low high =
     let least : tens k ≤ n = omega arith in
     let d = digits_decimal k n (omega arith) (λ h. least) in
     add-one k ∙ sym (digits_long (suc k) n) ∙ ap length d
+
+-- k digits are too few or just enough, and 10^k is at hand
+pub record Counting (n k p : ℕ) : Type 0 where
+  pub some : 1 ≤ k
+  pub few : k ≤ 19
+  pub power : p ≡ tens k
+  pub least : 1 < k → tens (k - 1) ≤ n
+
+-- one digit
+pub counting_start : (n : ℕ) → Counting n 1 10
+unfolding tens
+counting_start n = record { some = omega arith; few = omega arith; power = refl; least = λ h. absurd (omega arith) }
+
+module _ (n k p : ℕ) (c : Counting n k p) where
+  -- a number that one digit more may have has fewer than nineteen so far
+  pub counting_low : n < 10000000000000000000 → p ≤ n → k < 19
+  unfolding tens
+  counting_low h g =
+      case (ltb k 19) (λ t. ltb-true k 19 t) (λ t. let r = tens_rise 19 k (ltb-false k 19 t) in let e = c.power in absurd (omega arith))
+
+  -- then the next power fits 64 bits
+  pub counting_fits : n < 10000000000000000000 → p ≤ n → p ≤ 1000000000000000000
+  unfolding tens
+  counting_fits h g = let l = counting_low h g in let r = tens_rise k 18 (omega arith) in let e = c.power in omega arith
+
+  -- one digit more
+  pub counting_on : n < 10000000000000000000 → p ≤ n → Counting n (k + 1) (p * 10)
+  unfolding tens
+  counting_on h g =
+      let l = counting_low h g in
+      let e : k + 1 - 1 ≡ k = omega arith in
+      let f = c.power in
+      record { some = omega arith; few = omega arith; power = rw (add-one k, f); least = λ z. rw (e, ← f) g }
+
+  -- the digits are counted
+  pub counting_end : n < p → (k ≡ length (decimal n)) × (k ≤ 19)
+  counting_end h =
+      let e : k ≡ suc (k - 1) = let s = c.some in omega arith in
+      let f : n < tens (suc (k - 1)) = rw (← e, ← c.power) h in
+      let d : digits_of k n ≡ decimal n = ap (λ (j : ℕ). digits_of j n) e ∙ digits_decimal (k - 1) n f (λ z. c.least (omega arith)) in
+      (sym (digits_long k n) ∙ ap length d, c.few)

@@ -6,10 +6,11 @@ use mathlib.Core.Path.{◌≡◌, refl, ◌∙◌, ap}
 use Rattle.std.specs.List.{fold}
 use Rattle.std.proofs.lemmas.Bool.Decides.{nat_tests}
 use mathlib.Core.List.{List, [], ◌∷◌}
-use lib.Dec.{leb}
+use lib.Dec.{eqb, leb}
 use lib.ListN.{length}
-use borrow.Author.Tests.{eq-eqb, ne_eqb}
+use borrow.Author.Tests.{eq-eqb, ne_eqb, eqb-true}
 use Rattle.values.specs.Lists.{all}
+use Rattle.values.proofs.Cases.{and_left}
 use Rattle.refusals.specs.Refusals.{map_fits}
 
 abbrev pub low : ℕ → Bool
@@ -47,3 +48,8 @@ other_length n bad d = rw (ne_eqb (length bad * 4) n (λ e. d (omega arith)))
 pub no_quarter : (n : ℕ) (bad : List ℕ) → (n % 4 ≡ 0 → ⊥) → false ≡ map_fits n bad
 unfolding map_fits
 no_quarter n bad d = rw (ne_eqb (length bad * 4) n (λ e. d (omega arith)))
+
+-- what a map that fits has: one byte a word
+pub fits_length : (n : ℕ) (bad : List ℕ) → map_fits n bad ≡ true → length bad * 4 ≡ n
+unfolding map_fits
+fits_length n bad e = eqb-true (length bad * 4) n (and_left (eqb (length bad * 4) n) (all low bad) e)

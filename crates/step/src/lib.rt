@@ -89,7 +89,20 @@ fn write_step(side: &mut Lent, entries: &mut [u64], s: Scalars, t: Transfer, v: 
     if let Err(r) = call_refusal(s.counts.calls, Call::Write(t, v)) {
         return refused(s, r);
     }
-    cp15::write(side, entries, machine::counted(s), t, v)
+    let bad = side.bad;
+    let store = &mut *side.store;
+    cp15::write(
+        side.memory,
+        bad,
+        side.words,
+        side.bytes,
+        side.lines,
+        store,
+        entries,
+        machine::counted(s),
+        t,
+        v,
+    )
 }
 
 // A call on a machine that refusals 1 to 4 and 16 do not hold of.

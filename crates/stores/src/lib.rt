@@ -8,13 +8,13 @@ ghost use Rattle.bus.specs.Physical.{physical, outside, aborts};
 ghost use Rattle.buffer.specs.Buffer.{buffered};
 ghost use Rattle.buffer.specs.Packing.{backing_of};
 ghost use Rattle.buffer.specs.Ranges.{Left};
-ghost use Rattle.machine.specs.Lists.{lists, machine_of, stepped_of, Leaves, lists_of, Kept};
+ghost use Rattle.machine.specs.Lists.{lists, machine_of, stepped_of, LeavesBelow};
 ghost use Rattle.machine.specs.Machine.{Machine};
 ghost use Rattle.reach.specs.Code.{MissReady};
 ghost use Rattle.machine.specs.Scalars.{outcome_from};
 ghost use Rattle.stores.specs.Stores as spec;
 
-use machine::{Lent, Outcome, Scalars};
+use machine::{Outcome, Scalars};
 use translation::Place;
 use values::{Access, Answer};
 
@@ -49,14 +49,24 @@ pub fn store_hit(
 }
 
 // A store that drains the buffer and goes to memory.
-fn store_direct(side: &mut Lent, s: Scalars, a: Access, v: u32, p: Place) -> Outcome
-    requires { MissReady side.old.memory.now side.old.words.now side.old.bytes.now s.used a p
-        × (aborts (physical side.old.memory.now side.old.bad.now) p.address ≡ false) }
-    ensures { Leaves (lists_of side.old) s (lists_of side.new) result (λ (m : Machine). spec.store_direct m a v p) × Kept side.old side.new }
+fn store_direct(
+    memory: &mut [u8],
+    bad: &[u8],
+    words: &mut [u64],
+    bytes: &mut [[u8; 16]; 8],
+    s: Scalars,
+    a: Access,
+    v: u32,
+    p: Place,
+) -> Outcome
+    requires { MissReady memory.old words.old bytes.old s.used a p × (aborts (physical memory.old bad.now) p.address ≡ false) }
+    ensures { LeavesBelow memory.old bad.now words.old bytes.old s memory.new words.new
+        bytes.new result
+        (λ (m : Machine). spec.store_direct m a v p) }
 {
     let pa = p.address;
-    let drained = machine::drain(side.memory, side.bad, side.words, side.bytes, s);
-    words::store(side.memory, pa.0 as usize, a.width, v);
+    let drained = machine::drain(memory, bad, words, bytes, s);
+    words::store(memory, pa.0 as usize, a.width, v);
     stored(drained)
 }
 
@@ -84,37 +94,49 @@ fn buffer_or_drop(
 }
 
 // A store that is buffered, or dropped outside memory.
-fn store_buffered(side: &mut Lent, s: Scalars, a: Access, v: u32, p: Place) -> Outcome
-    requires { MissReady side.old.memory.now side.old.words.now side.old.bytes.now s.used a p }
-    ensures { Leaves (lists_of side.old) s (lists_of side.new) result (λ (m : Machine). spec.store_buffered m a v p) × Kept side.old side.new }
+fn store_buffered(
+    memory: &mut [u8],
+    bad: &[u8],
+    words: &mut [u64],
+    bytes: &mut [[u8; 16]; 8],
+    s: Scalars,
+    a: Access,
+    v: u32,
+    p: Place,
+) -> Outcome
+    requires { MissReady memory.old words.old bytes.old s.used a p }
+    ensures { LeavesBelow memory.old bad.now words.old bytes.old s memory.new words.new
+        bytes.new result
+        (λ (m : Machine). spec.store_buffered m a v p) }
 {
-    let used = buffer_or_drop(
-        side.memory,
-        side.bad,
-        side.words,
-        side.bytes,
-        s.used,
-        a,
-        v,
-        p,
-    );
+    let used = buffer_or_drop(memory, bad, words, bytes, s.used, a, v, p);
     stored(machine::with_used(s, used))
 }
 
-// A store that misses.
-pub fn store_miss(side: &mut Lent, s: Scalars, a: Access, v: u32, p: Place) -> Outcome
-    requires { MissReady side.old.memory.now side.old.words.now side.old.bytes.now s.used a p }
-    ensures { Leaves (lists_of side.old) s (lists_of side.new) result (λ (m : Machine). spec.store_miss m a v p) × Kept side.old side.new }
+// A store that misses. It and what it calls are lent the lists one by one: what README names asks for no more than it needs, and `machine::Lent` asks for
+// lines, pointers and store.
+pub fn store_miss(
+    memory: &mut [u8],
+    bad: &[u8],
+    words: &mut [u64],
+    bytes: &mut [[u8; 16]; 8],
+    s: Scalars,
+    a: Access,
+    v: u32,
+    p: Place,
+) -> Outcome
+    requires { MissReady memory.old words.old bytes.old s.used a p }
+    ensures { LeavesBelow memory.old bad.now words.old bytes.old s memory.new words.new
+        bytes.new result
+        (λ (m : Machine). spec.store_miss m a v p) }
 {
     let r = s.cp15.registers;
     if translation::buffers(r, p) {
-        return store_buffered(side, s, a, v, p);
+        return store_buffered(memory, bad, words, bytes, s, a, v, p);
     }
-    let bad = side.bad;
-    let memory = &mut *side.memory;
     if bus::aborts(memory, bad, p.address) {
         let address = a.address;
         return reach::faulted(s, translation::other_status(p), p.domain, address);
     }
-    store_direct(side, s, a, v, p)
+    store_direct(memory, bad, words, bytes, s, a, v, p)
 }

@@ -5,13 +5,13 @@ ghost use Rattle.std.specs.Prelude.{◌≡◌, true, false, List, ℕ, ◌<◌, 
 ghost use Rattle.values.specs.Counts.{count_limit};
 ghost use Rattle.words.specs.Words.{is_width};
 ghost use Rattle.bus.specs.Physical.{physical, aborts};
-ghost use Rattle.machine.specs.Lists.{lists, machine_of, stepped_of, Leaves, lists_of, Kept};
+ghost use Rattle.machine.specs.Lists.{lists, machine_of, stepped_of, Leaves, LeavesBelow};
 ghost use Rattle.machine.specs.Machine.{Machine};
 ghost use Rattle.reach.specs.Code.{MissReady};
 ghost use Rattle.swaps.specs.Swaps as spec;
 ghost use Rattle.swaps.specs.Code.{store_or_swap};
 
-use machine::{Lent, Outcome, Scalars};
+use machine::{Outcome, Scalars};
 use translation::Place;
 use values::Access;
 
@@ -34,15 +34,24 @@ fn swap_hit(lines: &mut [u64], store: &mut [u8], s: Scalars, a: Access, v: u32, 
 }
 
 // A swap in memory, once the buffer is drained.
-fn swap_direct(side: &mut Lent, s: Scalars, a: Access, v: u32, p: Place) -> Outcome
-    requires { MissReady side.old.memory.now side.old.words.now side.old.bytes.now s.used a p
-        × (aborts (physical side.old.memory.now side.old.bad.now) p.address ≡ false) }
-    ensures { Leaves (lists_of side.old) s (lists_of side.new) result (λ (m : Machine). spec.swap_direct m a v p) × Kept side.old side.new }
+fn swap_direct(
+    memory: &mut [u8],
+    bad: &[u8],
+    words: &mut [u64],
+    bytes: &mut [[u8; 16]; 8],
+    s: Scalars,
+    a: Access,
+    v: u32,
+    p: Place,
+) -> Outcome
+    requires { MissReady memory.old words.old bytes.old s.used a p × (aborts (physical memory.old bad.now) p.address ≡ false) }
+    ensures { LeavesBelow memory.old bad.now words.old bytes.old s memory.new words.new
+        bytes.new result
+        (λ (m : Machine). spec.swap_direct m a v p) }
 {
     let pa = p.address;
     let k = a.kind;
-    let drained = machine::drain(side.memory, side.bad, side.words, side.bytes, s);
-    let memory = &mut *side.memory;
+    let drained = machine::drain(memory, bad, words, bytes, s);
     let old = words::load(memory, pa.0 as usize, a.width);
     words::store(memory, pa.0 as usize, a.width, v);
     Outcome {
@@ -52,42 +61,66 @@ fn swap_direct(side: &mut Lent, s: Scalars, a: Access, v: u32, p: Place) -> Outc
 }
 
 // A swap that misses.
-fn swap_miss(side: &mut Lent, s: Scalars, a: Access, v: u32, p: Place) -> Outcome
-    requires { MissReady side.old.memory.now side.old.words.now side.old.bytes.now s.used a p }
-    ensures { Leaves (lists_of side.old) s (lists_of side.new) result (λ (m : Machine). spec.swap_miss m a v p) × Kept side.old side.new }
+fn swap_miss(
+    memory: &mut [u8],
+    bad: &[u8],
+    words: &mut [u64],
+    bytes: &mut [[u8; 16]; 8],
+    s: Scalars,
+    a: Access,
+    v: u32,
+    p: Place,
+) -> Outcome
+    requires { MissReady memory.old words.old bytes.old s.used a p }
+    ensures { LeavesBelow memory.old bad.now words.old bytes.old s memory.new words.new
+        bytes.new result
+        (λ (m : Machine). spec.swap_miss m a v p) }
 {
-    let bad = side.bad;
-    let memory = &mut *side.memory;
     if bus::aborts(memory, bad, p.address) {
         let address = a.address;
         return reach::faulted(s, translation::other_status(p), p.domain, address);
     }
-    swap_direct(side, s, a, v, p)
+    swap_direct(memory, bad, words, bytes, s, a, v, p)
 }
 
-// A store or a swap, by its kind: the Dcache is searched, even when disabled; a miss allocates no line.
-pub fn store_or_swap(side: &mut Lent, s: Scalars, a: Access, v: u32, p: Place) -> Outcome
-    requires { MissReady side.old.memory.now side.old.words.now side.old.bytes.now s.used a p × (length side.old.lines.now ≡ 512)
-        × (length side.old.store.now ≡ 16384) × (s.counts.hits < count_limit) }
-    ensures { Leaves (lists_of side.old) s (lists_of side.new) result (λ (m : Machine). store_or_swap m a v p) × Kept side.old side.new }
+// A store or a swap, by its kind: the Dcache is searched, even when disabled; a miss allocates no line. It and what it calls are lent the lists one by one:
+// what README names asks for no more than it needs, and `machine::Lent` asks for the pointers.
+pub fn store_or_swap(
+    memory: &mut [u8],
+    bad: &[u8],
+    words: &mut [u64],
+    bytes: &mut [[u8; 16]; 8],
+    lines: &mut [u64],
+    cached: &mut [u8],
+    s: Scalars,
+    a: Access,
+    v: u32,
+    p: Place,
+) -> Outcome
+    requires { MissReady memory.old words.old bytes.old s.used a p × (length lines.old ≡ 512) × (length cached.old ≡ 16384)
+        × (s.counts.hits < count_limit) }
+    ensures { (pointers : List ℕ)
+        → Leaves (lists memory.old bad.now words.old bytes.old lines.old pointers
+        cached.old) s
+        (lists memory.new bad.now words.new bytes.new lines.new pointers cached.new) result
+        (λ (m : Machine). store_or_swap m a v p) }
 {
     let va = translation::cleared(a);
     let k = a.kind;
     let swaps = values::is_swap(k);
-    let lines = &mut *side.lines;
     let found = cache::find(lines, va);
     match found {
         Some(i) => {
             if swaps {
-                return swap_hit(side.lines, side.store, s, a, v, i);
+                return swap_hit(lines, cached, s, a, v, i);
             }
-            stores::store_hit(side.lines, side.store, s, a, v, i)
+            stores::store_hit(lines, cached, s, a, v, i)
         },
         None => {
             if swaps {
-                return swap_miss(side, s, a, v, p);
+                return swap_miss(memory, bad, words, bytes, s, a, v, p);
             }
-            stores::store_miss(side, s, a, v, p)
+            stores::store_miss(memory, bad, words, bytes, s, a, v, p)
         },
     }
 }

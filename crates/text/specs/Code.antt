@@ -34,11 +34,6 @@ stored_room m slice =
 abbrev pub refused_by : List ℕ → List ℕ → List ℕ → ℕ → Started
 refused_by memory bad store n = started_from (fresh 0 memory bad store) n
 
--- the machine of a state and a record, or a refused read
-abbrev pub started_by : List ℕ → List ℕ → List ℕ → Result Restored Refusal → Started
-started_by memory bad store (Ok r) = started_from (machine_in memory bad store r.state r.cp15) 0
-started_by memory bad store (Err e) = refused_by memory bad store (number_of e)
-
 -- what storing answers: the text's length, or a refusal's number
 abbrev pub answer_of : Result ℕ Refusal → Answer
 answer_of (Ok n) = answer.Value n

@@ -97,6 +97,17 @@ pub fn store(state: State, cp15: Cp15, memory: &[u8], text: &mut [u8]) -> Answer
     }
 }
 
+// A refused read: a state and a record all zeros. A number, as in Started.
+fn refused(n: u32) -> Started
+    ensures { (memory bad store : List ℕ) → started_of memory bad store result ≡ code.refused_by memory bad store n }
+{
+    Started {
+        state: state::fresh(0),
+        cp15: values::zero_cp15(),
+        refusal: n,
+    }
+}
+
 // The state and the record of numbers.
 #[derive(Clone, Copy)]
 pub struct Restored {
@@ -140,36 +151,28 @@ fn restore(ns: &[u32]) -> Result<Restored, Refusal>
     Ok(Restored { state, cp15 })
 }
 
-// The state and the record of numbers, for a memory of n bytes, or refusal 3 or 4.
-fn read_state(ns: &[u32], n: usize) -> Result<Restored, Refusal>
+// The state and the record of numbers, for a memory of n bytes, or refusal 3 or 4. A Result of state and record from each step of a read to the next would
+// take 17 KB more of stack, and include/sa110.h promises 48 KB for a read.
+fn read_state(ns: &[u32], n: usize) -> Started
     requires { (length ns.now ≡ 3085) × (n ≤ 0x1000000) }
     ensures { (memory bad store : List ℕ) → length memory ≡ n
-        → code.started_by memory bad store result ≡ code.read_numbers memory bad store ns.now }
+        → started_of memory bad store result ≡ code.read_numbers memory bad store ns.now }
 {
-    let r = restore(ns)?;
+    let r = match restore(ns) {
+        Ok(r) => r,
+        Err(e) => return refused(u32::from(e)),
+    };
     if !state::is_sound(r.state, r.cp15, n) {
-        return Err(Refusal::State);
+        return refused(u32::from(Refusal::State));
     }
     if r.state.size != n {
-        return Err(Refusal::Length);
+        return refused(u32::from(Refusal::Length));
     }
-    Ok(r)
-}
-
-// The state and the record that a text has, or refusal 1, 14, 3 or 4.
-fn read_text(memory: &[u8], text: &[u8]) -> Result<Restored, Refusal>
-    ensures { (bad store : List ℕ) → code.started_by memory.now bad store result
-        ≡ reading.read_back memory.now bad store text.now }
-{
-    if !refusals::length_fits(memory.len()) {
-        return Err(Refusal::Memory);
+    Started {
+        state: r.state,
+        cp15: r.cp15,
+        refusal: 0,
     }
-    let behind = separators();
-    let mut ns = [0u32; 3085];
-    if !form::read_numbers(text, &behind, &mut ns) {
-        return Err(Refusal::Text);
-    }
-    read_state(&ns, memory.len())
 }
 
 // Reads a text back: the state and the record that it has, or refusal 1, 14, 3 or 4 with a state and a record all zeros.
@@ -177,16 +180,13 @@ pub fn read(memory: &[u8], text: &[u8]) -> Started
     ensures { (bad store : List ℕ) → started_of memory.now bad store result
         ≡ reading.read_back memory.now bad store text.now }
 {
-    match read_text(memory, text) {
-        Ok(r) => Started {
-            state: r.state,
-            cp15: r.cp15,
-            refusal: 0,
-        },
-        Err(r) => Started {
-            state: state::fresh(0),
-            cp15: values::zero_cp15(),
-            refusal: u32::from(r),
-        },
+    if !refusals::length_fits(memory.len()) {
+        return refused(u32::from(Refusal::Memory));
     }
+    let behind = separators();
+    let mut ns = [0u32; 3085];
+    if !form::read_numbers(text, &behind, &mut ns) {
+        return refused(u32::from(Refusal::Text));
+    }
+    read_state(&ns, memory.len())
 }

@@ -45,5 +45,5 @@ returns-in-Err c =
           (decision_is l a.entries.now a.s n a.a _ c.decide-d.ensures.same) (c.commit-left.ensures.0 l n) _ _
           c.in-Err.is)),
       c.requires.2.fits.bytes_long,
-      kept refl refl refl,
+      kept refl refl refl refl refl refl,
     )

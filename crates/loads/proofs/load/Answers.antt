@@ -24,7 +24,7 @@ returns-in-Some c =
             (sym c.find-found.ensures ∙ c.in-Some.is));
         bytes_long = c.requires.0.fits.bytes_long;
       },
-      kept refl refl refl,
+      kept refl refl refl refl refl refl,
     )
 
 pub returns-in-None : goal.returns-in-None

@@ -43,7 +43,7 @@ returns-then-faults c =
             (rw (← c.fill_status.ensures) (c.faulted.ensures k es n));
         bytes_long = c.fill-sent.ensures.fits.bytes_long;
       },
-      kept refl c.fill-sent.auto.memory c.fill-sent.auto.words,
+      kept refl c.fill-sent.auto.memory c.fill-sent.auto.words c.fill-sent.auto.lines c.fill-sent.auto.pointers c.fill-sent.auto.store,
     )
 
 pub load-v-requires : goal.load-v-requires
@@ -74,5 +74,5 @@ returns c =
             (sym c.wanted-faults.ensures ∙ c.if-faults.false) _ _ c.load-v.ensures.value c.load_answer.ensures;
         bytes_long = c.fill-sent.ensures.fits.bytes_long;
       },
-      kept refl c.fill-sent.auto.memory c.fill-sent.auto.words,
+      kept refl c.fill-sent.auto.memory c.fill-sent.auto.words c.fill-sent.auto.lines c.fill-sent.auto.pointers c.fill-sent.auto.store,
     )

@@ -36,7 +36,7 @@ returns-then-aborts c =
             (sym (miss_aborts (machine_of l es a.s n) a.a a.p f (sym c.aborts.ensures ∙ c.if-aborts.true)));
         bytes_long = c.requires.0.fits.bytes_long;
       },
-      kept refl refl refl,
+      kept refl refl refl refl refl refl,
     )
 
 pub load_uncached-requires : goal.load_uncached-requires

@@ -29,5 +29,5 @@ returns c =
             c.load_answer.ensures;
         bytes_long = c.ready_access-used.ensures.fits.bytes_long;
       },
-      kept refl c.ready_access-used.auto.memory c.ready_access-used.auto.words,
+      kept refl c.ready_access-used.auto.memory c.ready_access-used.auto.words refl refl refl,
     )

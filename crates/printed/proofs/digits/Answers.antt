@@ -1,14 +1,25 @@
-use Rattle.std.proofs.Common.{sym, ap, ◌≡◌, length, arith}
-use Rattle.printed.proofs.Decimal.{decimal_one, decimal_nineteen, digits_counted}
+use native.Mathlib.Omega.{arith}
+use mathlib.Core.Path.{◌≡◌, sym, ◌∙◌}
+use Rattle.printed.proofs.Decimal.{tens, counting_start, counting_fits, counting_on, counting_end}
 use Rattle.printed.proofs.digits.Goals as goal
 
-pub returns-in-Some : goal.returns-in-Some
-returns-in-Some c =
-    let n = c.args.n in
-    let w = c.in-Some in
-    let is = digits_counted n w.k w.ensures.power_le w.ensures.next_power_gt in
-    let few = decimal_nineteen n c.requires in
-    (is, omega arith)
+pub loop-k-init : goal.loop-k-init
+loop-k-init c = counting_start _
 
-pub returns-in-None : goal.returns-in-None
-returns-in-None c = let z : c.args.n ≡ 0 = c.in-None.ensures.none in (sym (ap length (decimal_one c.args.n (omega arith))), omega arith)
+pub returns-then-n-power : goal.returns-then-n-power
+returns-then-n-power c = let l = c.loop-k in counting_end c.args.n l.k l.power l.invariant c.if-n-power.true
+
+pub overflow_mul-power : goal.overflow_mul-power
+overflow_mul-power c = let l = c.loop-k in let g = counting_fits c.args.n l.k l.power l.invariant c.requires c.if-n-power.false in omega arith
+
+pub loop-k-preserved : goal.loop-k-preserved
+loop-k-preserved c = let l = c.loop-k in counting_on c.args.n l.k l.power l.invariant c.requires c.if-n-power.false
+
+pub returns : goal.returns
+unfolding tens
+returns c = let l = c.loop-k in
+    let few = l.invariant.few in
+    let e : l.k ≡ 19 = omega arith in
+    let p = l.invariant.power in
+    let d = counting_end c.args.n l.k l.power l.invariant (rw (p, e) c.requires) in
+    (sym e ∙ d.0, omega arith)

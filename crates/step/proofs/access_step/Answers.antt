@@ -23,7 +23,7 @@ returns-in-Err c =
         refused_by_lem l a.entries.now a.s n c.requires.3 (Access a.a) _ c.in-Err.ensures.number (no_zero c.in-Err.r) _ c.refused.ensures,
         c.requires.2,
       ),
-      kept refl refl refl,
+      kept refl refl refl refl refl refl,
     )
 
 pub serve-requires : goal.serve-requires

@@ -14,7 +14,7 @@ pub loop-i-init : goal.loop-i-init
 loop-i-init c = let a = c.args in (
   going_start (lists_of a.side.now) a.entries.now a.calls.now a.answers.now a.first a.n
       c.requires.1 c.requires.0.1 c.requires.0.2 c.requires.0.3,
-  kept refl refl refl,
+  kept refl refl refl refl refl refl,
 )
 
 pub is_call_at-requires : goal.is_call_at-requires
@@ -86,6 +86,9 @@ loop-i-preserved c = let a = c.args in
         store = k.store ∙ g.store;
         memory_long = k.memory_long ∙ g.memory_long;
         words_long = k.words_long ∙ g.words_long;
+        lines_long = k.lines_long ∙ g.lines_long;
+        pointers_long = k.pointers_long ∙ g.pointers_long;
+        store_long = k.store_long ∙ g.store_long;
       },
     )
 

@@ -25,7 +25,7 @@ pub returns-in-Read : goal.returns-in-Read
 returns-in-Read c =
     let a = c.args in (
       (rw c.in-Read.is (c.read_step.ensures (lists_of a.side.now) a.entries.now (length a.side.now.memory.now) c.requires.3), c.requires.2),
-      kept refl refl refl,
+      kept refl refl refl refl refl refl,
     )
 
 pub returns-in-Write : goal.returns-in-Write

@@ -28,7 +28,7 @@ returns-then-kind-eq3 c =
             (ap Read c.transfer_at.ensures ∙ sym (read_of _ _ _ _ _ c.if-kind-eq3.true)),
         c.requires.0.2,
       ),
-      kept refl refl refl,
+      kept refl refl refl refl refl refl,
     )
 
 pub write_step-requires : goal.write_step-requires

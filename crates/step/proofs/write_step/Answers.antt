@@ -15,7 +15,7 @@ returns-in-Err c =
     let a = c.args in (
       λ n k. refused_by_lem (lists_of a.side.now) a.entries.now a.s n k (Write a.t a.v) _ c.in-Err.ensures.number (no_zero c.in-Err.r) _ c.refused.ensures,
       c.requires.1,
-      kept refl refl refl,
+      kept refl refl refl refl refl refl,
     )
 
 pub write-requires : goal.write-requires
@@ -30,8 +30,8 @@ write-requires c =
 pub returns : goal.returns
 returns c =
     let a = c.args in (
-      λ n k. rw c.counted.ensures at (c.write.ensures.0 n)
+      λ n k. rw c.counted.ensures at (c.write.ensures.0 a.side.now.pointers.now n)
           ∙ sym (not_refused (lists_of a.side.now) a.entries.now a.s n k (Write a.t a.v) _ c.in_default.ensures.number refl),
       c.write.ensures.1,
-      c.write.ensures.2,
+      kept refl c.write.auto.memory c.write.auto.words c.write.auto.lines refl refl,
     )

@@ -1,7 +1,5 @@
-use mathlib.Core.Path.{refl, ◌∙◌}
 use Rattle.stores.proofs.Laws.{direct_left}
-use Rattle.machine.proofs.Kept.{kept}
-use Rattle.machine.specs.Lists.{lists_of}
+use Rattle.machine.specs.Lists.{lists}
 use Rattle.reach.proofs.Bounds.{lies_inside}
 use native.Mathlib.Omega.{arith}
 use Rattle.stores.proofs.store_direct.Goals as goal
@@ -9,18 +7,16 @@ use Rattle.stores.proofs.store_direct.Goals as goal
 pub store-requires : goal.store-requires
 store-requires c =
     let a = c.args in
-    let h = lies_inside a.side.now.memory.now a.side.now.words.now a.side.now.bytes.now a.s.used a.a a.p c.requires.0 a.side.now.bad.now c.requires.1 in
-    (c.requires.0.width, omega (arith, h, c.drain-drained.auto.memory))
+    let h = lies_inside a.memory.now a.words.now a.bytes.now a.s.used a.a a.p c.requires.0 a.bad.now c.requires.1 in
+    (c.requires.0.width, omega (arith, h, c.memory-1.given))
 
 pub returns : goal.returns
 returns c =
     let a = c.args in
-    let drained = c.drain-drained in (
-      record {
-        same = λ es n. direct_left es a.s n a.a a.v (lists_of a.side.now) _ a.p _
-            c.store.new.bytes drained.new.memory drained.new.words drained.new.bytes
-            drained.ensures.0 drained.ensures.1 c.store.ensures c.stored.ensures;
-        bytes_long = drained.ensures.1.fits.bytes_long;
-      },
-      kept refl (c.store.auto.bytes ∙ c.drain-drained.auto.memory) c.drain-drained.auto.words,
-    )
+    let drained = c.drain-drained in
+    λ ls ps st. record {
+      same = λ es n. direct_left es a.s n a.a a.v (lists a.memory.now a.bad.now a.words.now a.bytes.now ls ps st) _ a.p _
+          c.store.new.bytes drained.new.memory drained.new.words drained.new.bytes
+          drained.ensures.0 drained.ensures.1 c.store.ensures c.stored.ensures;
+      bytes_long = drained.ensures.1.fits.bytes_long;
+    }
