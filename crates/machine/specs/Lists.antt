@@ -51,7 +51,7 @@ LeavesBelow memory bad words bytes s memory' words' bytes' o f =
 abbrev pub lists_of : Lent → Lists
 lists_of t = lists t.memory.now t.bad.now t.words.now t.bytes.now t.lines.now t.pointers.now t.store.now
 
--- the references are still those that came in, and the lists are as long as they were
+-- the references are still those that came in, the map is as it was, and the other slices are as long as they were
 pub record Kept (t u : Lent) : Type 0 where
   pub memory : u.memory.ghost_name ≡ t.memory.ghost_name
   pub bad : u.bad.now ≡ t.bad.now
